@@ -1,9 +1,10 @@
 -- The tests of alike expressions and of assignments that pair say what the relations say, and the count is that of the
 -- most statements that pair.
-use Rattle.std.proofs.Common.{length, ◌≡◌, ℕ, ◌+◌, ◌≤◌, ◌==◌, Bool, true, false, not, ◌&&◌, ◌||◌, nat_lt, nat_le, ℤ, pos, List, refl, sym, ap, ◌∙◌, subst, ◌⊎◌, ⊎_elim, arith}
+use Rattle.std.proofs.Common.{length, ◌≡◌, ℕ, ◌+◌, ◌≤◌, ◌==◌, Bool, true, false, not, ◌&&◌, ◌||◌, nat_lt, nat_le, ℤ, pos, List, refl, sym, ap, ◌∙◌, subst, ◌⊎◌, inl, inr, ⊎_elim, arith}
 use Rattle.std.specs.Prelude.{◌↔◌, if◌then◌else◌, is_some, bytes_eq}
+use Rattle.std.specs.Bool.{Decides}
 use Rattle.std.proofs.lemmas.Bool.{and_parts, and_from, or_cases, eqb-true, eq-eqb, ltb-true, lt-ltb, leb-true, le-leb, or_left, or_right}
-use Rattle.std.proofs.lemmas.Bool.Decides.{Decides-int_eq}
+use Rattle.std.proofs.lemmas.Bool.Decides.{Decides-and, Decides-eqb, Decides-int_eq, Decides-or}
 use Rattle.std.proofs.lemmas.Slice.Eq.{bytes_eq-Decides}
 use Rattle.symbolic_values.specs.Sameness.{same_op}
 use Rattle.symbolic_values.proofs.TreeEquality.{same_op-true, same_op-own}
@@ -11,7 +12,7 @@ use Rattle.src_tree.specs.Trees.{Tree, Number, Variable, Element, Operation, Sta
 use Rattle.block_cache_gen.specs.Homes.{further_slots, Setting, home_of}
 use Rattle.block_cache_gen.specs.Codes.{is_cached, is_masked, is_within_home, may_step, operand, held_number, reducer, straight}
 use Rattle.gr_word.specs.declared.operations.Op.{Op}
-use Rattle.block_cache_gen.specs.Alike.{is_product, AreNumbersAlike, numbers_alike, AreHeldAlike, held_alike, InOneBank, AreNumberedAlike, BothWithin, BothReduced, numbered_alike, AreReducedAlike, Residents, ToResidents, same_flag, reduced_alike, Alike, Numbers, Scalars, Oblivious, Same, Operations, ByNumber, Pair, ToScalars, ToOblivious, ToSame, StartsPaired, NonePaired, OnePaired, IsPairCount, is_same, in_one_bank, both_products, are_plain, is_same_number, by_same_number, is_alike, straight_alike, is_pair, pair_count}
+use Rattle.block_cache_gen.specs.Alike.{is_product, AreNumbersAlike, numbers_alike, AreHeldAlike, held_alike, InOneBank, AreNumberedAlike, BothWithin, BothReduced, numbered_alike, AreReducedAlike, Residents, ToResidents, same_flag, reduced_alike, Alike, Numbers, Scalars, Oblivious, Same, Operations, ByNumber, Pair, ToScalars, ToOblivious, ToSame, StartsPaired, NonePaired, OnePaired, IsPairCount, is_same, in_one_bank, in_step, both_products, are_plain, is_same_number, by_same_number, is_alike, straight_alike, is_pair, pair_count}
 
 -- expressions as they stand
 same-true : (a b : Tree) → is_same a b ≡ true → a ≡ b
@@ -52,40 +53,33 @@ kinds-own false false e = refl
 kinds-own true false e = absurd (let f : true ≡ false = e in cc)
 kinds-own false true e = absurd (let f : false ≡ true = e in cc)
 
+kinds_decide : (b c : Bool) → Decides (if b then c else not c) (b ≡ c)
+kinds_decide b c = (kinds-true b c, kinds-own b c)
+
+flag_decides : (b : Bool) → Decides b (b ≡ true)
+flag_decides b = (λ e. e, λ e. e)
+
 module _ (f : Setting) where
   -- two numbers that registers hold, or neither
-  numbers-true : (y z : ℤ) → numbers_alike f y z ≡ true → AreNumbersAlike f y z
-  numbers-true y z e = kinds-true (is_some (held_number f y)) (is_some (held_number f z)) e
+  numbers_decide : (y z : ℤ) → Decides (numbers_alike f y z) (AreNumbersAlike f y z)
+  numbers_decide y z = kinds_decide (is_some (held_number f y)) (is_some (held_number f z))
 
-  numbers-own : (y z : ℤ) → AreNumbersAlike f y z → numbers_alike f y z ≡ true
-  numbers-own y z one = kinds-own (is_some (held_number f y)) (is_some (held_number f z)) one
-
-  bank-true : (x y : List ℕ) → in_one_bank f x y ≡ true → InOneBank f x y
-  bank-true x y e =
+  bank_decides : (x y : List ℕ) → Decides (in_one_bank f (home_of f x) (home_of f y)) (InOneBank f x y)
+  bank_decides x y =
       let g = home_of f x in
       let h = home_of f y in
+      let oblivious : Decides (nat_le 2 g.bank) (2 ≤ g.bank) = (leb-true 2 g.bank, le-leb 2 g.bank) in
       let reduced = numbers_alike f (reducer g) (reducer h) in
       let blocks = numbers_alike f (pos g.block) (pos h.block) in
-      let one = and_parts (nat_le 2 g.bank) ((g.bank == h.bank) && (reduced && blocks)) e in
-      let two = and_parts (g.bank == h.bank) (reduced && blocks) one.1 in
-      let three = and_parts reduced blocks two.1 in
-      record {
-        oblivious = leb-true 2 g.bank one.0;
-        same = eqb-true g.bank h.bank two.0;
-        reduced = numbers-true (reducer g) (reducer h) three.0;
-        blocks = numbers-true (pos g.block) (pos h.block) three.1;
-      }
-
-  bank-own : (x y : List ℕ) → InOneBank f x y → in_one_bank f x y ≡ true
-  bank-own x y one =
-      let g = home_of f x in
-      let h = home_of f y in
-      let reduced = numbers_alike f (reducer g) (reducer h) in
-      let blocks = numbers_alike f (pos g.block) (pos h.block) in
-      and_from (nat_le 2 g.bank) ((g.bank == h.bank) && (reduced && blocks)) (le-leb 2 g.bank one.oblivious)
-      (and_from (g.bank == h.bank) (reduced && blocks) (eq-eqb g.bank h.bank one.same)
-      (and_from reduced blocks (numbers-own (reducer g) (reducer h) one.reduced)
-      (numbers-own (pos g.block) (pos h.block) one.blocks)))
+      let found = Decides-and reduced blocks (numbers_decide (reducer g) (reducer h))
+      (numbers_decide (pos g.block) (pos h.block)) in
+      let same = Decides-and (g.bank == h.bank) (reduced && blocks) (Decides-eqb g.bank h.bank) found in
+      let all = Decides-and (nat_le 2 g.bank) ((g.bank == h.bank) && (reduced && blocks)) oblivious same in (
+        λ e.
+            let (bank, (one, (reducers, firsts))) = all.0 e in
+            record { oblivious = bank; same = one; reduced = reducers; blocks = firsts },
+        λ one. all.1 (one.oblivious, (one.same, (one.reduced, one.blocks))),
+      )
 
   -- two indexes that are numbered alike
   numbered-true : (x y : List ℕ) (i j : Tree)
@@ -108,7 +102,7 @@ module _ (f : Setting) where
             first = first;
             second = second;
             masked = kinds-true (is_masked g) (is_masked h) parts.0;
-            reduced = numbers-true (reducer g) (reducer h) parts.1;
+            reduced = (numbers_decide (reducer g) (reducer h)).0 parts.1;
           })
 
   numbered-own : (x y : List ℕ) (i j : Tree) → AreNumberedAlike f x y i j
@@ -121,10 +115,18 @@ module _ (f : Setting) where
       let h = home_of f y in
       (λ k. numbered_alike f g h (one.first k) (one.second k))
       ∙ and_from (same_flag (is_masked g) (is_masked h)) (numbers_alike f (reducer g) (reducer h))
-      (kinds-own (is_masked g) (is_masked h) one.masked) (numbers-own (reducer g) (reducer h) one.reduced)
+      (kinds-own (is_masked g) (is_masked h) one.masked) ((numbers_decide (reducer g) (reducer h)).1 one.reduced)
 
-  reduced-true : (x y : List ℕ) (i j : Tree) → reduced_alike f x y i j ≡ true → AreReducedAlike f x y i j
-  reduced-true x y i j e =
+  numbered_decides : (x y : List ℕ) (i j : Tree)
+      → Decides
+      (numbered_alike f (home_of f x) (home_of f y) (is_within_home f (home_of f x) i) (is_within_home f (home_of f y) j))
+      (AreNumberedAlike f x y i j)
+  numbered_decides x y i j = (numbered-true x y i j, numbered-own x y i j)
+
+  -- resident arrays whose indexes are reduced alike
+  reduced_decides : (x y : List ℕ) (i j : Tree)
+      → Decides (reduced_alike f (home_of f x) (home_of f y) i j) (AreReducedAlike f x y i j)
+  reduced_decides x y i j =
       let g = home_of f x in
       let h = home_of f y in
       let low = same_flag (is_cached g) (is_cached h) in
@@ -133,46 +135,40 @@ module _ (f : Setting) where
       let words = numbers_alike f (pos g.word) (pos h.word) in
       let blocks = length (further_slots g) == length (further_slots h) in
       let numbers = numbered && (words && blocks) in
-      let one = and_parts g.resident (h.resident && (low && (offset && numbers))) e in
-      let two = and_parts h.resident (low && (offset && numbers)) one.1 in
-      let three = and_parts low (offset && numbers) two.1 in
-      let four = and_parts offset numbers three.1 in
-      let five = and_parts numbered (words && blocks) four.1 in
-      let six = and_parts words blocks five.1 in
-      record {
-        first = one.0;
-        second = two.0;
-        low = kinds-true (is_cached g) (is_cached h) three.0;
-        offset = kinds-true (g.word == 0) (h.word == 0) four.0;
-        numbered = numbered-true x y i j five.0;
-        words = numbers-true (pos g.word) (pos h.word) six.0;
-        blocks = eqb-true (length (further_slots g)) (length (further_slots h)) six.1;
-      }
+      let counted = Decides-and words blocks (numbers_decide (pos g.word) (pos h.word))
+      (Decides-eqb (length (further_slots g)) (length (further_slots h))) in
+      let reduced = Decides-and numbered (words && blocks) (numbered_decides x y i j) counted in
+      let begun = Decides-and offset numbers (kinds_decide (g.word == 0) (h.word == 0)) reduced in
+      let cached = Decides-and low (offset && numbers) (kinds_decide (is_cached g) (is_cached h)) begun in
+      let second = Decides-and h.resident (low && (offset && numbers)) (flag_decides h.resident) cached in
+      let all =
+      Decides-and g.resident (h.resident && (low && (offset && numbers))) (flag_decides g.resident) second in (
+        λ e.
+            let (one, (other, (kind, (begins, (number, (firsts, count)))))) = all.0 e in
+            record {
+              first = one;
+              second = other;
+              low = kind;
+              offset = begins;
+              numbered = number;
+              words = firsts;
+              blocks = count;
+            },
+        λ one.
+            all.1
+            (one.first, (one.second, (one.low, (one.offset, (one.numbered, (one.words, one.blocks)))))),
+      )
 
-  reduced-own : (x y : List ℕ) (i j : Tree) → AreReducedAlike f x y i j → reduced_alike f x y i j ≡ true
-  reduced-own x y i j one =
-      let g = home_of f x in
-      let h = home_of f y in
-      let low = same_flag (is_cached g) (is_cached h) in
-      let offset = same_flag (g.word == 0) (h.word == 0) in
-      let numbered = numbered_alike f g h (is_within_home f g i) (is_within_home f h j) in
-      let words = numbers_alike f (pos g.word) (pos h.word) in
-      let blocks = length (further_slots g) == length (further_slots h) in
-      let numbers = numbered && (words && blocks) in
-      and_from g.resident (h.resident && (low && (offset && numbers))) one.first
-      (and_from h.resident (low && (offset && numbers)) one.second
-      (and_from low (offset && numbers) (kinds-own (is_cached g) (is_cached h) one.low)
-      (and_from offset numbers (kinds-own (g.word == 0) (h.word == 0) one.offset)
-      (and_from numbered (words && blocks) (numbered-own x y i j one.numbered)
-      (and_from words blocks (numbers-own (pos g.word) (pos h.word) one.words)
-      (eq-eqb (length (further_slots g)) (length (further_slots h)) one.blocks))))))
+  -- elements with alike indexes that are alike
+  step_decides : (x y : List ℕ) (i j : Tree)
+      → Decides (in_step f (home_of f x) (home_of f y) i j) (InOneBank f x y ⊎ AreReducedAlike f x y i j)
+  step_decides x y i j =
+      Decides-or (in_one_bank f (home_of f x) (home_of f y)) (reduced_alike f (home_of f x) (home_of f y) i j)
+      (bank_decides x y) (reduced_decides x y i j)
 
   -- two numbers or scalars that registers hold, or neither
-  held-true : (a b : Tree) → held_alike f a b ≡ true → AreHeldAlike f a b
-  held-true a b e = kinds-true (is_some (operand f a)) (is_some (operand f b)) e
-
-  held-own : (a b : Tree) → AreHeldAlike f a b → held_alike f a b ≡ true
-  held-own a b one = kinds-own (is_some (operand f a)) (is_some (operand f b)) one
+  held_decides : (a b : Tree) → Decides (held_alike f a b) (AreHeldAlike f a b)
+  held_decides a b = kinds_decide (is_some (operand f a)) (is_some (operand f b))
 
   -- one array and one index
   record OneElement (x y : List ℕ) (i j : Tree) : Type 0 where
@@ -222,25 +218,25 @@ module _ (f : Setting) where
 
   -- alike expressions
   alike-true : (a b : Tree) → is_alike f a b ≡ true → Alike f a b
-  alike-true (Number y) (Number z) e = Numbers y z (held-true (Number y) (Number z) e)
-  alike-true (Variable x) (Variable y) e = Scalars x y (held-true (Variable x) (Variable y) e)
+  alike-true (Number y) (Number z) e = Numbers y z ((held_decides (Number y) (Number z)).0 e)
+  alike-true (Variable x) (Variable y) e = Scalars x y ((held_decides (Variable x) (Variable y)).0 e)
   alike-true (Element x i) (Element y j) e =
-      let held = or_cases ((in_one_bank f x y || reduced_alike f x y i j) && is_alike f i j)
+      let held = or_cases (in_step f (home_of f x) (home_of f y) i j && is_alike f i j)
       (nat_lt (home_of f x).bank 2 && (bytes_eq x y && is_same i j)) e in
       by (alike-true i j) held
     where
       by : (is_alike f i j ≡ true → Alike f i j)
-          → (((in_one_bank f x y || reduced_alike f x y i j) && is_alike f i j) ≡ true)
+          → ((in_step f (home_of f x) (home_of f y) i j && is_alike f i j) ≡ true)
           ⊎ ((nat_lt (home_of f x).bank 2 && (bytes_eq x y && is_same i j)) ≡ true)
           → Alike f (Element x i) (Element y j)
       by rest held =
           ⊎_elim
-          (λ (one : ((in_one_bank f x y || reduced_alike f x y i j) && is_alike f i j) ≡ true).
-          let parts = and_parts (in_one_bank f x y || reduced_alike f x y i j) (is_alike f i j) one in
+          (λ (one : (in_step f (home_of f x) (home_of f y) i j && is_alike f i j) ≡ true).
+          let parts = and_parts (in_step f (home_of f x) (home_of f y) i j) (is_alike f i j) one in
           ⊎_elim
-          (λ (bank : in_one_bank f x y ≡ true). Oblivious x y i j (bank-true x y bank) (rest parts.1))
-          (λ (both : reduced_alike f x y i j ≡ true). Residents x y i j (reduced-true x y i j both) (rest parts.1))
-          (or_cases (in_one_bank f x y) (reduced_alike f x y i j) parts.0))
+          (λ (bank : InOneBank f x y). Oblivious x y i j bank (rest parts.1))
+          (λ (both : AreReducedAlike f x y i j). Residents x y i j both (rest parts.1))
+          ((step_decides x y i j).0 parts.0))
           (λ (same : (nat_lt (home_of f x).bank 2 && (bytes_eq x y && is_same i j)) ≡ true).
           let parts = and_parts (nat_lt (home_of f x).bank 2) (bytes_eq x y && is_same i j) same in
           let element = element-true x y i j parts.1 in
@@ -255,20 +251,20 @@ module _ (f : Setting) where
   alike-true _ _ e = absurd (let f : false ≡ true = e in cc)
 
   alike-own : (a b : Tree) → Alike f a b → is_alike f a b ≡ true
-  alike-own a b (Numbers y z one) = held-own (Number y) (Number z) one
-  alike-own a b (Scalars x y one) = held-own (Variable x) (Variable y) one
+  alike-own a b (Numbers y z one) = (held_decides (Number y) (Number z)).1 one
+  alike-own a b (Scalars x y one) = (held_decides (Variable x) (Variable y)).1 one
   alike-own a b (Oblivious x y i j one alike) =
-      or_left ((in_one_bank f x y || reduced_alike f x y i j) && is_alike f i j)
+      or_left (in_step f (home_of f x) (home_of f y) i j && is_alike f i j)
       (nat_lt (home_of f x).bank 2 && (bytes_eq x y && is_same i j))
-      (and_from (in_one_bank f x y || reduced_alike f x y i j) (is_alike f i j)
-      (or_left (in_one_bank f x y) (reduced_alike f x y i j) (bank-own x y one)) (alike-own i j alike))
+      (and_from (in_step f (home_of f x) (home_of f y) i j) (is_alike f i j)
+      ((step_decides x y i j).1 (inl one)) (alike-own i j alike))
   alike-own a b (Residents x y i j one alike) =
-      or_left ((in_one_bank f x y || reduced_alike f x y i j) && is_alike f i j)
+      or_left (in_step f (home_of f x) (home_of f y) i j && is_alike f i j)
       (nat_lt (home_of f x).bank 2 && (bytes_eq x y && is_same i j))
-      (and_from (in_one_bank f x y || reduced_alike f x y i j) (is_alike f i j)
-      (or_right (in_one_bank f x y) (reduced_alike f x y i j) (reduced-own x y i j one)) (alike-own i j alike))
+      (and_from (in_step f (home_of f x) (home_of f y) i j) (is_alike f i j)
+      ((step_decides x y i j).1 (inr one)) (alike-own i j alike))
   alike-own a b (Same x i cached) =
-      or_right ((in_one_bank f x x || reduced_alike f x x i i) && is_alike f i i)
+      or_right (in_step f (home_of f x) (home_of f x) i i && is_alike f i i)
       (nat_lt (home_of f x).bank 2 && (bytes_eq x x && is_same i i))
       (and_from (nat_lt (home_of f x).bank 2) (bytes_eq x x && is_same i i) (lt-ltb (home_of f x).bank 2 cached)
       (element-own x i))
@@ -294,62 +290,60 @@ module _ (f : Setting) where
   pair-true (SetVariable x e) (SetVariable y g) held =
       let parts = and_parts (held_alike f (Variable x) (Variable y)) (straight_alike f x y e g && is_alike f e g) held in
       let rest = and_parts (straight_alike f x y e g) (is_alike f e g) parts.1 in
-      ToScalars x y e g (held-true (Variable x) (Variable y) parts.0)
+      ToScalars x y e g ((held_decides (Variable x) (Variable y)).0 parts.0)
       (kinds-true (is_some (straight f x e)) (is_some (straight f y g)) rest.0) (alike-true e g rest.1)
   pair-true (SetElement x i e) (SetElement y j g) held =
       let parts = and_parts (is_alike f e g)
-      (((in_one_bank f x y || reduced_alike f x y i j) && is_alike f i j)
+      ((in_step f (home_of f x) (home_of f y) i j && is_alike f i j)
       || (((home_of f x).bank == 1) && (bytes_eq x y && is_same i j))) held in
       let value = alike-true e g parts.0 in
       ⊎_elim
-      (λ (one : ((in_one_bank f x y || reduced_alike f x y i j) && is_alike f i j) ≡ true).
-      let both = and_parts (in_one_bank f x y || reduced_alike f x y i j) (is_alike f i j) one in
+      (λ (one : (in_step f (home_of f x) (home_of f y) i j && is_alike f i j) ≡ true).
+      let both = and_parts (in_step f (home_of f x) (home_of f y) i j) (is_alike f i j) one in
       ⊎_elim
-      (λ (bank : in_one_bank f x y ≡ true).
-      ToOblivious x y i j e g (bank-true x y bank) (alike-true i j both.1) value)
-      (λ (reduced : reduced_alike f x y i j ≡ true).
-      ToResidents x y i j e g (reduced-true x y i j reduced) (alike-true i j both.1) value)
-      (or_cases (in_one_bank f x y) (reduced_alike f x y i j) both.0))
+      (λ (bank : InOneBank f x y). ToOblivious x y i j e g bank (alike-true i j both.1) value)
+      (λ (reduced : AreReducedAlike f x y i j). ToResidents x y i j e g reduced (alike-true i j both.1) value)
+      ((step_decides x y i j).0 both.0))
       (λ (same : (((home_of f x).bank == 1) && (bytes_eq x y && is_same i j)) ≡ true).
       let both = and_parts ((home_of f x).bank == 1) (bytes_eq x y && is_same i j) same in
       let element = element-true x y i j both.1 in
       let own = ToSame x i e g (eqb-true (home_of f x).bank 1 both.0) value in
       subst (λ (z : List ℕ). Pair f (SetElement x i e) (SetElement z j g)) element.array
       (subst (λ (k : Tree). Pair f (SetElement x i e) (SetElement x k g)) element.index own))
-      (or_cases ((in_one_bank f x y || reduced_alike f x y i j) && is_alike f i j)
+      (or_cases (in_step f (home_of f x) (home_of f y) i j && is_alike f i j)
       (((home_of f x).bank == 1) && (bytes_eq x y && is_same i j)) parts.1)
   pair-true _ _ held = absurd (let f : false ≡ true = held in cc)
 
   pair-own : (s t : Statement) → Pair f s t → is_pair f s t ≡ true
   pair-own s t (ToScalars x y e g one both alike) =
       and_from (held_alike f (Variable x) (Variable y)) (straight_alike f x y e g && is_alike f e g)
-      (held-own (Variable x) (Variable y) one)
+      ((held_decides (Variable x) (Variable y)).1 one)
       (and_from (straight_alike f x y e g) (is_alike f e g)
       (kinds-own (is_some (straight f x e)) (is_some (straight f y g)) both) (alike-own e g alike))
   pair-own s t (ToOblivious x y i j e g one index value) =
       and_from (is_alike f e g)
-      (((in_one_bank f x y || reduced_alike f x y i j) && is_alike f i j)
+      ((in_step f (home_of f x) (home_of f y) i j && is_alike f i j)
       || (((home_of f x).bank == 1) && (bytes_eq x y && is_same i j)))
       (alike-own e g value)
-      (or_left ((in_one_bank f x y || reduced_alike f x y i j) && is_alike f i j)
+      (or_left (in_step f (home_of f x) (home_of f y) i j && is_alike f i j)
       (((home_of f x).bank == 1) && (bytes_eq x y && is_same i j))
-      (and_from (in_one_bank f x y || reduced_alike f x y i j) (is_alike f i j)
-      (or_left (in_one_bank f x y) (reduced_alike f x y i j) (bank-own x y one)) (alike-own i j index)))
+      (and_from (in_step f (home_of f x) (home_of f y) i j) (is_alike f i j)
+      ((step_decides x y i j).1 (inl one)) (alike-own i j index)))
   pair-own s t (ToResidents x y i j e g one index value) =
       and_from (is_alike f e g)
-      (((in_one_bank f x y || reduced_alike f x y i j) && is_alike f i j)
+      ((in_step f (home_of f x) (home_of f y) i j && is_alike f i j)
       || (((home_of f x).bank == 1) && (bytes_eq x y && is_same i j)))
       (alike-own e g value)
-      (or_left ((in_one_bank f x y || reduced_alike f x y i j) && is_alike f i j)
+      (or_left (in_step f (home_of f x) (home_of f y) i j && is_alike f i j)
       (((home_of f x).bank == 1) && (bytes_eq x y && is_same i j))
-      (and_from (in_one_bank f x y || reduced_alike f x y i j) (is_alike f i j)
-      (or_right (in_one_bank f x y) (reduced_alike f x y i j) (reduced-own x y i j one)) (alike-own i j index)))
+      (and_from (in_step f (home_of f x) (home_of f y) i j) (is_alike f i j)
+      ((step_decides x y i j).1 (inr one)) (alike-own i j index)))
   pair-own s t (ToSame x i e g encrypted value) =
       and_from (is_alike f e g)
-      (((in_one_bank f x x || reduced_alike f x x i i) && is_alike f i i)
+      ((in_step f (home_of f x) (home_of f x) i i && is_alike f i i)
       || (((home_of f x).bank == 1) && (bytes_eq x x && is_same i i)))
       (alike-own e g value)
-      (or_right ((in_one_bank f x x || reduced_alike f x x i i) && is_alike f i i)
+      (or_right (in_step f (home_of f x) (home_of f x) i i && is_alike f i i)
       (((home_of f x).bank == 1) && (bytes_eq x x && is_same i i))
       (and_from ((home_of f x).bank == 1) (bytes_eq x x && is_same i i) (eq-eqb (home_of f x).bank 1 encrypted)
       (element-own x i)))

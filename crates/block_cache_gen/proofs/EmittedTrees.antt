@@ -1,7 +1,6 @@
 -- What is appended for expressions, by their parts.
 use Rattle.std.proofs.Common.{◌≡◌, ℕ, ◌+◌, ◌-◌, ◌*◌, ◌<◌, ◌≤◌, ◌^◌, Bool, true, false, append_assoc, List, [], ◌∷◌, ◌++◌, length, Option, Some, None, ℤ, pos, ◌+ℤ◌, refl, sym, ap, ◌∙◌, subst, arith, length-append, add_assoc}
 use Rattle.std.specs.Prelude.{if◌then◌else◌}
-use Rattle.std.specs.Option.{option_map}
 use Rattle.gr_word.specs.declared.operations.Op.{Op}
 use Rattle.gr_word.specs.declared.variables.Label.{Label}
 use Rattle.lt_isa.specs.Limits.{most_instructions}
@@ -23,9 +22,8 @@ use Rattle.block_cache_gen.specs.declared.indexes.Numbering.TheVariants.{Reduced
 use Rattle.block_cache_gen.specs.declared.frames.Mode.TheVariants.{Public, Real, Mirrored}
 use Rattle.block_cache_gen.specs.Homes.{Home, Setting, home_of}
 use Rattle.block_cache_gen.specs.Codes.{access_by, applied_code, found_by, is_cached, is_within_home, numbering, numbering_by, compared_code, least_word, numbered_code, numbered_register, offset_code, shift_code, fixed_code, load_code, skips, access_code, indexed_code, index_operand, fixed_index, operand, operand_part, operand_register, left_operand, operation_code, steps_at, expr_code, read_code}
-use Rattle.strength_reduction.specs.Steps.{Step, code_of}
 use Rattle.block_cache_gen.specs.Notes.{expr_notes, operand_mask, operation_notes, index_notes, compared_notes, loaded_notes, load_notes, access_mask, unmarked, note_of}
-use Rattle.block_cache_gen.specs.Emitted.{Appended, no_notes, notes_in, access_notes, OperationBy, EmitsOperation, EmitsOperand, EmitsExpr, EmitsAccess, EmitsFound}
+use Rattle.block_cache_gen.specs.Emitted.{Appended, no_notes, notes_in, access_notes, EmitsOperation, EmitsOperand, EmitsExpr, EmitsAccess, EmitsFound}
 use Rattle.block_cache_gen.proofs.Emitting.{appended_then, appended_as, appended_length, silent_behind, silent_before, notes_both, notes_by}
 use Rattle.block_cache_gen.proofs.HeldOperands.{operand-short}
 use Rattle.block_cache_gen.proofs.Sizes.{expr_code_short, offset_length}
@@ -345,54 +343,6 @@ element_emitted f mode mask to x i h a b c is y z =
     subst P is
     (silent_behind a b c (indexed_code f (numbering f mode h i) mode h to i (expr_code f mode to i))
     (read_code f h (fixed_index h i) to) (λ place. notes_in mode (access_notes f h mask to i place)) y z)
-
--- the steps, or the right side and the operation
-pub steps_emitted : (f : Setting) (mode : Mode) (mask to left : ℕ) (op : Op) (r : Tree) (steps : List Step) (code : List Instr)
-    (a b : CodeBuf) → steps_at f op r ≡ Some steps → code ≡ code_of to steps → Appended a b code no_notes
-    → EmitsOperation f mode mask to left op r a b
-steps_emitted f mode mask to left op r steps code a b is same x =
-    let P : Option (List Step) → Type 0 = λ found. OperationBy f mode mask to left op r found a b in
-    subst P (sym is)
-    (appended_as a b code (code_of to steps) no_notes
-    (λ place. notes_in mode []) same (λ place. sym (nothing mode)) x)
-  where
-    nothing : (m : Mode) → notes_in m [] ≡ []
-    nothing Public = refl
-    nothing Real = refl
-    nothing Mirrored = refl
-
--- what a search for steps returned
-pub found-some : (g : List Step → List Instr) (found : Option (List Step)) (code : List Instr)
-    → Some code ≡ option_map g found → (steps : List Step) × (found ≡ Some steps) × (code ≡ g steps)
-found-some g None code e = absurd (let f : ◌≡◌ {A = Option (List Instr)} (Some code) None = e in cc)
-found-some g (Some steps) code e =
-    (steps, refl, (let f : ◌≡◌ {A = Option (List Instr)} (Some code) (Some (g steps)) = e in cc))
-
-pub found-none : (g : List Step → List Instr) (found : Option (List Step)) → None ≡ option_map g found → found ≡ None
-found-none g None e = refl
-found-none g (Some steps) e = absurd (let f : ◌≡◌ {A = Option (List Instr)} None (Some (g steps)) = e in cc)
-
-pub steps_appended : (f : Setting) (mode : Mode) (mask to left : ℕ) (op : Op) (r : Tree) (code : List Instr)
-    (a b : CodeBuf) → Some code ≡ option_map (code_of to) (steps_at f op r) → Appended a b code no_notes
-    → EmitsOperation f mode mask to left op r a b
-steps_appended f mode mask to left op r code a b e x =
-    let known = found-some (code_of to) (steps_at f op r) code e in
-    steps_emitted f mode mask to left op r known.0 code a b known.1 known.2 x
-
-pub right_emitted : (f : Setting) (mode : Mode) (mask to left : ℕ) (op : Op) (r : Tree) (q : Option ℕ) (right : ℕ)
-    (a b c : CodeBuf) → steps_at f op r ≡ None → q ≡ operand f r → right ≡ operand_register q (to + 1)
-    → EmitsOperand f mode mask (to + 1) q r a b → Appended b c (Alu op to left right ∷ []) no_notes
-    → EmitsOperation f mode mask to left op r a c
-right_emitted f mode mask to left op r q right a b c is is_q is_right x y =
-    let P : Option (List Step) → Type 0 = λ found. OperationBy f mode mask to left op r found a c in
-    let Q : Option ℕ → ℕ → Type 0 = λ p rb. Appended a c
-    (operand_part p (expr_code f mode (to + 1) r) ++ Alu op to left rb ∷ [])
-    (λ place. notes_in mode (operand_part p (expr_notes f mask (to + 1) place r))) in
-    subst P (sym is)
-    (subst (λ p. Q p (operand_register p (to + 1))) is_q
-    (subst (Q q) is_right
-    (silent_behind a b c (operand_part q (expr_code f mode (to + 1) r)) (Alu op to left right ∷ [])
-    (λ place. notes_in mode (operand_part q (expr_notes f mask (to + 1) place r))) x y)))
 
 pub operation_emitted : (f : Setting) (mode : Mode) (mask to : ℕ) (op : Op) (l r : Tree) (q : Option ℕ)
     (left other : ℕ) (a b c : CodeBuf)

@@ -1,5 +1,5 @@
 -- What is appended, piece by piece.
-use Rattle.std.proofs.Common.{◌≡◌, ℕ, ◌+◌, List, [], ◌++◌, length, refl, sym, ap, ◌∙◌, append_assoc, length-append}
+use Rattle.std.proofs.Common.{◌≡◌, ℕ, ◌+◌, List, [], ◌++◌, length, refl, ap, ◌∙◌, append_assoc, length-append}
 use Rattle.std.proofs.lemmas.List.{append-nil}
 use Rattle.lt_isa.specs.declared.instructions.Instr.{Instr}
 use Rattle.lt_isa.specs.declared.symbols.Note.{Note}
@@ -7,10 +7,6 @@ use Rattle.block_cache_gen.specs.declared.frames.CodeBuf.{CodeBuf}
 use Rattle.block_cache_gen.specs.declared.frames.Mode.{Mode}
 use Rattle.block_cache_gen.specs.declared.frames.Mode.TheVariants.{Public, Real, Mirrored}
 use Rattle.block_cache_gen.specs.Emitted.{Appended, CodeGrows, no_notes, notes_in}
-
--- without anything appended, what was there is at the front
-pub grows_same : (a : CodeBuf) → CodeGrows a a
-grows_same a = record { code = ([], sym (append-nil a.code.items)); notes = ([], sym (append-nil a.notes.items)) }
 
 longer : {X : Type 0} (a b c : List X) (m : (more : List X) × (b ≡ a ++ more)) (n : (more : List X) × (c ≡ b ++ more))
     → (more : List X) × (c ≡ a ++ more)
@@ -57,13 +53,6 @@ silent_behind a b c one two first x y =
 pub silent_before : (a b c : CodeBuf) (one two : List Instr) (second : ℕ → List Note) → Appended a b one no_notes
     → Appended b c two second → Appended a c (one ++ two) (λ place. second (place + length one))
 silent_before a b c one two second x y = appended_then a b c one two no_notes second x y
-
--- what has no notes has none in any mode
-pub silent_in : (mode : Mode) (a b : CodeBuf) (code : List Instr) → Appended a b code no_notes
-    → Appended a b code (λ place. notes_in mode [])
-silent_in Public a b code x = x
-silent_in Real a b code x = x
-silent_in Mirrored a b code x = x
 
 -- the notes of two pieces together, in any mode
 pub notes_both : (mode : Mode) (xs ys : List Note) → notes_in mode xs ++ notes_in mode ys ≡ notes_in mode (xs ++ ys)

@@ -59,10 +59,6 @@ pub scalar-length : (length : Option ℕ) → shape_of length ≡ Scalar → len
 scalar-length None is = refl
 scalar-length (Some n) is = absurd (let f : ◌≡◌ {A = Shape} Array Scalar = is in cc)
 
-array-length : (length : Option ℕ) → shape_of length ≡ Array → (n : ℕ) × (length ≡ Some n)
-array-length None is = absurd (let f : ◌≡◌ {A = Shape} Scalar Array = is in cc)
-array-length (Some n) is = (n, refl)
-
 plain-public : (label : Label) (bank : ℕ) → IsBankOf label bank → (bank ≡ 0) ↔ (label ≡ Public)
 plain-public Public bank is = (λ plain. refl, λ public. is)
 plain-public Secret bank is = (

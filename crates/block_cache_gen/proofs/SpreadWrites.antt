@@ -199,31 +199,29 @@ module _ (once : Bool) where
 
   -- ---- a word of an array is stored
 
+  one-access : (mode : Mode) (slot value : ℕ)
+      → (stored_words once (store_code once mode slot value) ≡ 1)
+      × (written_words once (store_code once mode slot value) ≡ 1)
+  one-access Public slot value = (refl, refl)
+  one-access Real slot value = by once
+    where
+      by : (b : Bool)
+          → (stored_words b (store_code b Real slot value) ≡ 1) × (written_words b (store_code b Real slot value) ≡ 1)
+      by false = (refl, refl)
+      by true = (refl, refl)
+  one-access Mirrored slot value = by once
+    where
+      by : (b : Bool)
+          → (stored_words b (store_code b Mirrored slot value) ≡ 1)
+          × (written_words b (store_code b Mirrored slot value) ≡ 1)
+      by false = (refl, refl)
+      by true = (refl, refl)
+
   pub store-stores : (mode : Mode) (slot value : ℕ) → stored_words once (store_code once mode slot value) ≡ 1
-  store-stores Public slot value = refl
-  store-stores Real slot value = by once
-    where
-      by : (b : Bool) → stored_words b (store_code b Real slot value) ≡ 1
-      by false = refl
-      by true = refl
-  store-stores Mirrored slot value = by once
-    where
-      by : (b : Bool) → stored_words b (store_code b Mirrored slot value) ≡ 1
-      by false = refl
-      by true = refl
+  store-stores mode slot value = (one-access mode slot value).0
 
   pub store-writes : (mode : Mode) (slot value : ℕ) → written_words once (store_code once mode slot value) ≡ 1
-  store-writes Public slot value = refl
-  store-writes Real slot value = by once
-    where
-      by : (b : Bool) → written_words b (store_code b Real slot value) ≡ 1
-      by false = refl
-      by true = refl
-  store-writes Mirrored slot value = by once
-    where
-      by : (b : Bool) → written_words b (store_code b Mirrored slot value) ≡ 1
-      by false = refl
-      by true = refl
+  store-writes mode slot value = (one-access mode slot value).1
 
   block-stores : (mode : Mode) (slot value : ℕ)
       → stored_words once (store_code once mode slot value ++ Stb slot ∷ []) ≡ 1

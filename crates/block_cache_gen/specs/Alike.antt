@@ -110,12 +110,11 @@ held_alike f a b = same_flag (is_some (operand f a)) (is_some (operand f b))
 abbrev pub numbers_alike : Setting → (y z : ℤ) → Bool
 numbers_alike f y z = same_flag (is_some (held_number f y)) (is_some (held_number f z))
 
-abbrev pub in_one_bank : Setting → List ℕ → List ℕ → Bool
-in_one_bank f x y =
-    nat_le 2 (home_of f x).bank
-    && (((home_of f x).bank == (home_of f y).bank)
-    && (numbers_alike f (reducer (home_of f x)) (reducer (home_of f y))
-    && numbers_alike f (pos (home_of f x).block) (pos (home_of f y).block)))
+abbrev pub in_one_bank : Setting → Home → Home → Bool
+in_one_bank f g h =
+    nat_le 2 g.bank
+    && ((g.bank == h.bank)
+    && (numbers_alike f (reducer g) (reducer h) && numbers_alike f (pos g.block) (pos h.block)))
 
 abbrev pub both_products : Op → Op → Bool
 both_products op oq = if is_product op then is_product oq else not (is_product oq)
@@ -125,16 +124,19 @@ numbered_alike f g h true other = other
 numbered_alike f g h false true = false
 numbered_alike f g h false false = same_flag (is_masked g) (is_masked h) && numbers_alike f (reducer g) (reducer h)
 
-abbrev pub reduced_alike : Setting → List ℕ → List ℕ → Tree → Tree → Bool
-reduced_alike f x y i j =
-    (home_of f x).resident
-    && ((home_of f y).resident
-    && (same_flag (is_cached (home_of f x)) (is_cached (home_of f y))
-    && (same_flag ((home_of f x).word == 0) ((home_of f y).word == 0)
-    && (numbered_alike f (home_of f x) (home_of f y) (is_within_home f (home_of f x) i)
-    (is_within_home f (home_of f y) j)
-    && (numbers_alike f (pos (home_of f x).word) (pos (home_of f y).word)
-    && (length (further_slots (home_of f x)) == length (further_slots (home_of f y))))))))
+abbrev pub reduced_alike : Setting → Home → Home → Tree → Tree → Bool
+reduced_alike f g h i j =
+    g.resident
+    && (h.resident
+    && (same_flag (is_cached g) (is_cached h)
+    && (same_flag (g.word == 0) (h.word == 0)
+    && (numbered_alike f g h (is_within_home f g i) (is_within_home f h j)
+    && (numbers_alike f (pos g.word) (pos h.word)
+    && (length (further_slots g) == length (further_slots h)))))))
+
+-- elements of two arrays with alike indexes are alike
+abbrev pub in_step : Setting → Home → Home → Tree → Tree → Bool
+in_step f g h i j = in_one_bank f g h || reduced_alike f g h i j
 
 -- no steps replace either of two operations
 abbrev pub are_plain : Setting → Op → Tree → Op → Tree → Bool
@@ -152,7 +154,7 @@ abbrev pub is_alike : Setting → Tree → Tree → Bool
 is_alike f (Number y) (Number z) = held_alike f (Number y) (Number z)
 is_alike f (Variable x) (Variable y) = held_alike f (Variable x) (Variable y)
 is_alike f (Element x i) (Element y j) =
-    ((in_one_bank f x y || reduced_alike f x y i j) && is_alike f i j)
+    (in_step f (home_of f x) (home_of f y) i j && is_alike f i j)
     || (nat_lt (home_of f x).bank 2 && (bytes_eq x y && is_same i j))
 is_alike f (Operation op a b) (Operation oq c d) =
     is_alike f a c
@@ -167,7 +169,7 @@ is_pair f (SetVariable x e) (SetVariable y g) =
     held_alike f (Variable x) (Variable y) && (straight_alike f x y e g && is_alike f e g)
 is_pair f (SetElement x i e) (SetElement y j g) =
     is_alike f e g
-    && (((in_one_bank f x y || reduced_alike f x y i j) && is_alike f i j)
+    && ((in_step f (home_of f x) (home_of f y) i j && is_alike f i j)
     || (((home_of f x).bank == 1) && (bytes_eq x y && is_same i j)))
 is_pair f _ _ = false
 

@@ -11,6 +11,7 @@ pub mod TreeWords
 pub mod ProgramWords
 pub mod Variables
 pub mod Emitted
+pub mod Indexed
 pub mod Extends
 pub mod Accesses
 pub mod LeavesWord

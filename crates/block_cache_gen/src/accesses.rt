@@ -3,16 +3,19 @@ ghost use Rattle.std.specs.List.{list_any, range_with_len};
 ghost use Rattle.gr_word.specs.Words.{unsigned_of};
 ghost use Rattle.src_tree.specs.Labels.{secret_label};
 ghost use Rattle.src_tree.specs.Trees.{expr_tree};
-ghost use Rattle.block_cache_gen.specs.Codes.{access_by, copy_code, compares, is_within_home, numbering, numbered_code, placed_code, has_offset, numbered_register, offset_code, shift_code, fixed_code, fixed_index, fixed_word, index_operand, is_cached, is_masked, is_power, may_skip_loads, literal, load_code, operand_register, scalar_code, skips};
+ghost use Rattle.block_cache_gen.specs.Codes.{access_by, copy_code, compares, is_within_home, numbering, placed_code, has_offset, numbered_register, offset_code, shift_code, fixed_code, fixed_index, fixed_word, index_operand, is_cached, is_masked, is_power, may_skip_loads, literal, load_code, operand_register, scalar_code, skips};
 ghost use Rattle.block_cache_gen.specs.declared.indexes.Numbering.TheVariants.{Reduced};
-ghost use Rattle.block_cache_gen.specs.Notes.{access_mask, compared_notes, loaded_notes, marked_by, unmarked};
+ghost use Rattle.block_cache_gen.specs.Indexed.{code_of_index, notes_of_index};
+ghost use Rattle.block_cache_gen.specs.Notes.{access_mask, loaded_notes, marked_by, unmarked};
 ghost use Rattle.block_cache_gen.specs.Emitted.{Appended, CodeGrows, EmitsFound, no_notes, notes_in};
 ghost use Rattle.block_cache_gen.specs.TreeWords.{HasWords};
 ghost use Rattle.block_cache_gen.specs.Variables.{home_in};
 
 use crate::emitter::{Emitter, label_of};
 use crate::frames::{CodeBuf, Mode};
-use crate::indexes::{Numbering, numbered_register, put_applied, put_note_behind, put_numbered};
+use crate::indexes::{
+    Indexed, Numbering, numbered_register, put_applied, put_note_behind, put_numbered,
+};
 use crate::variables::Variable;
 use gr_base::Memory;
 use gr_word::{Cmp, Label, Op};
@@ -304,33 +307,22 @@ fn put_offset(
     )
 }
 
-// The number of the resident array's word that the index in register `from` names in its block, in register `to`.
+// Appends what leaves the number, in its block, of the word of a resident array that an index names.
 fn put_placed(
     emitter: &Emitter<'_, '_, '_>,
     out: &mut CodeBuf,
-    array: Variable,
-    to: u8,
-    from: u8,
-    numbering: Numbering,
-    mask: u32,
+    index: Indexed,
 ) -> Result<(), Memory>
-    requires registers { to + 2 < 19 }
+    requires registers { index.to + 2 < 19 }
     requires room { length out.old.code.items + 6 < 2 ^ 32 }
     ensures appended { OnOk result (Appended out.old out.new
-        (numbered_code numbering emitter.now (home_in array) to from
-        ++ offset_code emitter.now (home_in array) to (numbered_register numbering to from))
-        (λ place. compared_notes numbering None emitter.now mask to
-        (place + length (numbered_code numbering emitter.now (home_in array) to from)))) }
+        (code_of_index emitter.now index ++ offset_code emitter.now (home_in index.array) index.to
+        (numbered_register index.numbering index.to index.from)) (notes_of_index emitter.now index)) }
     ensures grows { CodeGrows out.old out.new }
 {
-    put_numbered(emitter, out, array, to, from, numbering, mask)?;
-    put_offset(
-        emitter,
-        out,
-        array,
-        to,
-        numbered_register(numbering, to, from),
-    )
+    put_numbered(emitter, out, index)?;
+    let from = numbered_register(index.numbering, index.to, index.from);
+    put_offset(emitter, out, index.array, index.to, from)
 }
 
 // The number of the block of the word that a register names, in the next register.
@@ -365,28 +357,21 @@ fn put_block(
     )
 }
 
-/// Appends what leaves the number of the word that the index in register `from` names in register `to`, and that of its
-/// block in the next. The only error is want of memory.
-pub(crate) fn put_located(
+// Appends what leaves the number of the word that an index names, and that of its block in the next register.
+fn put_located(
     emitter: &Emitter<'_, '_, '_>,
     out: &mut CodeBuf,
-    array: Variable,
-    to: u8,
-    from: u8,
-    numbering: Numbering,
-    mask: u32,
+    index: Indexed,
 ) -> Result<(), Memory>
-    requires registers { to + 2 < 19 }
+    requires registers { index.to + 2 < 19 }
     requires room { length out.old.code.items + 6 < 2 ^ 32 }
     ensures appended { OnOk result (Appended out.old out.new
-        (numbered_code numbering emitter.now (home_in array) to from
-        ++ shift_code emitter.now (home_in array) to)
-        (λ place. compared_notes numbering None emitter.now mask to
-        (place + length (numbered_code numbering emitter.now (home_in array) to from)))) }
+        (code_of_index emitter.now index ++ shift_code emitter.now (home_in index.array) index.to)
+        (notes_of_index emitter.now index)) }
     ensures grows { CodeGrows out.old out.new }
 {
-    put_numbered(emitter, out, array, to, from, numbering, mask)?;
-    put_block(emitter, out, array, to)
+    put_numbered(emitter, out, index)?;
+    put_block(emitter, out, index.array, index.to)
 }
 
 // Appends the load of the block that the next register names into the array's slot: in public code only where it isn't
@@ -479,9 +464,16 @@ pub(crate) fn put_found_access<'a>(
     ensures grows { CodeGrows out.old out.new }
 {
     let numbering = numbering(emitter, mode, array, index);
+    let indexed = Indexed {
+        array,
+        numbering,
+        from,
+        to,
+        mask,
+    };
     if is_resident(array) {
-        return put_placed(emitter, out, array, to, from, numbering, mask);
+        return put_placed(emitter, out, indexed);
     }
-    put_located(emitter, out, array, to, from, numbering, mask)?;
+    put_located(emitter, out, indexed)?;
     put_load(emitter, out, array, to, mode, mask)
 }

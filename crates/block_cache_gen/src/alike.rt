@@ -1,4 +1,4 @@
-ghost use Rattle.std.specs.Prelude.{◌==◌, ◌≡◌, ◌+◌, ◌≤◌, ◌&&◌, ◌||◌, pos, true, is_some, bytes_eq, length};
+ghost use Rattle.std.specs.Prelude.{◌==◌, ◌≡◌, ◌+◌, ◌≤◌, ◌&&◌, pos, true, is_some, bytes_eq, length};
 ghost use Rattle.gr_word.specs.declared.variables.Label.{Label};
 ghost use Rattle.lt_isa.specs.Object.{bank_kind};
 ghost use Rattle.src_tree.specs.Contexts.{context_of};
@@ -6,7 +6,7 @@ ghost use Rattle.src_tree.specs.Trees.{block_of_all, statement_of, expr_tree};
 ghost use Rattle.src_tree.specs.Trees as trees;
 ghost use Rattle.src_tree.specs.Typing.{TypedBlock, TypedStatement, TypedTree};
 ghost use Rattle.symbolic_values.specs.Sameness.{same_op};
-ghost use Rattle.block_cache_gen.specs.Alike.{held_alike, numbers_alike, are_plain, by_same_number, is_same_number, same_flag, straight_alike, numbered_alike, reduced_alike, both_products, in_one_bank, is_alike, is_pair, is_product, is_same, pair_count};
+ghost use Rattle.block_cache_gen.specs.Alike.{held_alike, numbers_alike, are_plain, by_same_number, is_same_number, same_flag, straight_alike, numbered_alike, reduced_alike, both_products, in_one_bank, in_step, is_alike, is_pair, is_product, is_same, pair_count};
 ghost use Rattle.block_cache_gen.specs.Codes.{is_cached, is_masked, is_within_home, reducer};
 ghost use Rattle.block_cache_gen.specs.Variables.{home_in};
 ghost use Rattle.block_cache_gen.specs.Homes.{further_slots, home_of};
@@ -78,20 +78,12 @@ fn is_same(e: &Expr, other: &Expr) -> bool
     }
 }
 
-// The bank of a variable.
-fn bank_of<'a>(emitter: &Emitter<'a, '_, '_>, name: &'a Name) -> u8
-    requires { is_some (context_of emitter.now.decls name.now) ≡ true }
-    ensures { result ≡ (home_of emitter.now name.now).bank }
-{
-    emitter.variable(name.bytes()).place.bank
-}
-
-// Its kind.
+// The kind of a variable's bank.
 fn kind_of<'a>(emitter: &Emitter<'a, '_, '_>, name: &'a Name) -> BankKind
     requires { is_some (context_of emitter.now.decls name.now) ≡ true }
     ensures { result ≡ bank_kind (home_of emitter.now name.now).bank }
 {
-    bank_kind(bank_of(emitter, name))
+    bank_kind(emitter.variable(name.bytes()).place.bank)
 }
 
 fn same_flag(one: bool, other: bool) -> bool
@@ -117,26 +109,11 @@ fn reducers_alike(emitter: &Emitter<'_, '_, '_>, one: Variable, other: Variable)
     numbers_alike(emitter, reducer(one), reducer(other))
 }
 
-// The same of their first blocks.
-fn blocks_alike(emitter: &Emitter<'_, '_, '_>, one: Variable, other: Variable) -> bool
-    ensures { result ≡ numbers_alike emitter.now (pos (home_in one).block) (pos (home_in other).block) }
+// The same of the numbers of two blocks or words.
+fn places_alike(emitter: &Emitter<'_, '_, '_>, one: u32, other: u32) -> bool
+    ensures { result ≡ numbers_alike emitter.now (pos one) (pos other) }
 {
-    numbers_alike(
-        emitter,
-        i64::from(one.place.block),
-        i64::from(other.place.block),
-    )
-}
-
-// The same of their first words.
-fn words_alike(emitter: &Emitter<'_, '_, '_>, one: Variable, other: Variable) -> bool
-    ensures { result ≡ numbers_alike emitter.now (pos (home_in one).word) (pos (home_in other).word) }
-{
-    numbers_alike(
-        emitter,
-        i64::from(one.place.word),
-        i64::from(other.place.word),
-    )
+    numbers_alike(emitter, i64::from(one), i64::from(other))
 }
 
 // The same of both numbers of two arrays of oblivious banks.
@@ -144,30 +121,15 @@ fn are_found_alike(emitter: &Emitter<'_, '_, '_>, one: Variable, other: Variable
     ensures { result ≡ (numbers_alike emitter.now (reducer (home_in one)) (reducer (home_in other))
         && numbers_alike emitter.now (pos (home_in one).block) (pos (home_in other).block)) }
 {
-    reducers_alike(emitter, one, other) && blocks_alike(emitter, one, other)
-}
-
-fn found_alike<'a>(emitter: &Emitter<'a, '_, '_>, x: &'a Name, y: &'a Name) -> bool
-    requires first { is_some (context_of emitter.now.decls x.now) ≡ true }
-    requires second { is_some (context_of emitter.now.decls y.now) ≡ true }
-    ensures { result ≡ (numbers_alike emitter.now (reducer (home_of emitter.now x.now)) (reducer (home_of emitter.now y.now))
-        && numbers_alike emitter.now (pos (home_of emitter.now x.now).block) (pos (home_of emitter.now y.now).block)) }
-{
-    are_found_alike(
-        emitter,
-        emitter.variable(x.bytes()),
-        emitter.variable(y.bytes()),
-    )
+    reducers_alike(emitter, one, other) && places_alike(emitter, one.place.block, other.place.block)
 }
 
 // Whether two arrays are in one oblivious bank, and registers hold the numbers of their code alike.
-fn in_one_bank<'a>(emitter: &Emitter<'a, '_, '_>, x: &'a Name, y: &'a Name) -> bool
-    requires first { is_some (context_of emitter.now.decls x.now) ≡ true }
-    requires second { is_some (context_of emitter.now.decls y.now) ≡ true }
-    ensures { result ≡ in_one_bank emitter.now x.now y.now }
+fn in_one_bank(emitter: &Emitter<'_, '_, '_>, one: Variable, other: Variable) -> bool
+    ensures { result ≡ in_one_bank emitter.now (home_in one) (home_in other) }
 {
-    kind_of(emitter, x) == BankKind::Oblivious
-        && (bank_of(emitter, x) == bank_of(emitter, y) && found_alike(emitter, x, y))
+    bank_kind(one.place.bank) == BankKind::Oblivious
+        && (one.place.bank == other.place.bank && are_found_alike(emitter, one, other))
 }
 
 // Whether slots hold as many blocks of two variables for the whole run.
@@ -217,7 +179,7 @@ fn indexes_alike(
 }
 
 // Whether two variables are resident arrays of as many blocks whose indexes are reduced alike.
-fn are_reduced_alike(
+fn reduced_alike(
     emitter: &Emitter<'_, '_, '_>,
     one: Variable,
     other: Variable,
@@ -226,42 +188,19 @@ fn are_reduced_alike(
 ) -> bool
     requires first { one.further ≤ 4 }
     requires second { other.further ≤ 4 }
-    ensures { result ≡ ((home_in one).resident
-        && ((home_in other).resident
-        && (same_flag (is_cached (home_in one)) (is_cached (home_in other))
-        && (same_flag ((home_in one).word == 0) ((home_in other).word == 0)
-        && (numbered_alike emitter.now (home_in one) (home_in other)
-        (is_within_home emitter.now (home_in one) (expr_tree index.now))
-        (is_within_home emitter.now (home_in other) (expr_tree place.now))
-        && (numbers_alike emitter.now (pos (home_in one).word) (pos (home_in other).word)
-        && (length (further_slots (home_in one)) == length (further_slots (home_in other))))))))) }
+    ensures { result
+        ≡ reduced_alike emitter.now (home_in one) (home_in other) (expr_tree index.now) (expr_tree place.now) }
 {
     is_resident(one)
         && (is_resident(other)
             && (same_flag(is_cached(one), is_cached(other))
                 && (same_flag(one.place.word == 0, other.place.word == 0)
                     && (indexes_alike(emitter, one, other, index, place)
-                        && (words_alike(emitter, one, other) && as_many_blocks(one, other))))))
-}
-
-fn reduced_alike<'a>(
-    emitter: &Emitter<'a, '_, '_>,
-    x: &'a Name,
-    y: &'a Name,
-    index: &'a Expr,
-    place: &'a Expr,
-) -> bool
-    requires first { is_some (context_of emitter.now.decls x.now) ≡ true }
-    requires second { is_some (context_of emitter.now.decls y.now) ≡ true }
-    ensures { result ≡ reduced_alike emitter.now x.now y.now (expr_tree index.now) (expr_tree place.now) }
-{
-    are_reduced_alike(
-        emitter,
-        emitter.variable(x.bytes()),
-        emitter.variable(y.bytes()),
-        index,
-        place,
-    )
+                        && (places_alike(
+                            emitter,
+                            u32::from(one.place.word),
+                            u32::from(other.place.word),
+                        ) && as_many_blocks(one, other))))))
 }
 
 // Whether elements of two arrays with alike indexes are alike.
@@ -274,10 +213,12 @@ fn in_step<'a>(
 ) -> bool
     requires first { is_some (context_of emitter.now.decls x.now) ≡ true }
     requires second { is_some (context_of emitter.now.decls y.now) ≡ true }
-    ensures { result ≡ (in_one_bank emitter.now x.now y.now
-        || reduced_alike emitter.now x.now y.now (expr_tree index.now) (expr_tree place.now)) }
+    ensures { result ≡ in_step emitter.now (home_of emitter.now x.now) (home_of emitter.now y.now)
+        (expr_tree index.now) (expr_tree place.now) }
 {
-    in_one_bank(emitter, x, y) || reduced_alike(emitter, x, y, index, place)
+    let one = emitter.variable(x.bytes());
+    let other = emitter.variable(y.bytes());
+    in_one_bank(emitter, one, other) || reduced_alike(emitter, one, other, index, place)
 }
 
 // The same number.

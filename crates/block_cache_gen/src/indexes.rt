@@ -1,6 +1,7 @@
-ghost use Rattle.std.specs.Prelude.{ℕ, ◌≡◌, ◌+◌, ◌^◌, ◌<◌, [], ◌∷◌, None, pos, ◌+ℤ◌, OnOk, length};
-ghost use Rattle.block_cache_gen.specs.Codes.{applied_code, compared_code, least_word, numbered_code, numbered_register, reduced_code, reducer, reducing};
-ghost use Rattle.block_cache_gen.specs.Notes.{compared_notes, note_of, unmarked};
+ghost use Rattle.std.specs.Prelude.{ℕ, ◌≡◌, ◌+◌, ◌^◌, ◌<◌, [], ◌∷◌, pos, ◌+ℤ◌, OnOk, length};
+ghost use Rattle.block_cache_gen.specs.Codes.{applied_code, compared_code, least_word, numbered_register, reduced_code, reducer, reducing};
+ghost use Rattle.block_cache_gen.specs.Indexed.{code_of_index, notes_of_index};
+ghost use Rattle.block_cache_gen.specs.Notes.{note_of, unmarked};
 ghost use Rattle.block_cache_gen.specs.Emitted.{Appended, CodeGrows, no_notes};
 ghost use Rattle.block_cache_gen.specs.Settings.{home_at};
 ghost use Rattle.block_cache_gen.specs.Variables.{home_in};
@@ -24,6 +25,20 @@ pub(crate) enum Numbering {
     Reduced,
     /// The index is known to be below the length, so it is the number of the word.
     Within,
+}
+
+/// How an index becomes the number of a word of an array.
+#[derive(Clone, Copy, Debug)]
+pub(crate) struct Indexed {
+    pub array: Variable,
+    pub numbering: Numbering,
+    /// The register that has the index.
+    pub from: u8,
+    /// The first of the registers that are overwritten. The number is left in it, or stays in `from` if the index is known
+    /// to be below the length. If the index is compared with the length, it is in this register.
+    pub to: u8,
+    /// Which registers may be secret in a note.
+    pub mask: u32,
 }
 
 /// Appends a note after the code so far. The only error is want of memory.
@@ -54,28 +69,21 @@ pub(crate) fn numbered_register(numbering: Numbering, to: u8, from: u8) -> u8
     }
 }
 
-/// Appends what leaves the number of the word that the index in register `from` names in register `to`, or in `from` if
-/// it is known to be below the length. If the index is compared with the length, both are one register. The only error is
-/// want of memory.
+/// Appends what leaves the number of the word that an index names. The only error is want of memory.
 pub(crate) fn put_numbered(
     emitter: &Emitter<'_, '_, '_>,
     out: &mut CodeBuf,
-    array: Variable,
-    to: u8,
-    from: u8,
-    numbering: Numbering,
-    mask: u32,
+    index: Indexed,
 ) -> Result<(), Memory>
-    requires registers { to + 2 < 19 }
+    requires registers { index.to + 2 < 19 }
     requires room { length out.old.code.items + 6 < 2 ^ 32 }
-    ensures appended { OnOk result (Appended out.old out.new (numbered_code numbering emitter.now (home_in array) to from)
-        (λ place. compared_notes numbering None emitter.now mask to
-        (place + length (numbered_code numbering emitter.now (home_in array) to from)))) }
+    ensures appended { OnOk result
+        (Appended out.old out.new (code_of_index emitter.now index) (notes_of_index emitter.now index)) }
     ensures grows { CodeGrows out.old out.new }
 {
-    match numbering {
-        Numbering::Compared => put_compared(emitter, out, array, to, mask),
-        Numbering::Reduced => put_reduced(emitter, out, array, to, from),
+    match index.numbering {
+        Numbering::Compared => put_compared(emitter, out, index.array, index.to, index.mask),
+        Numbering::Reduced => put_reduced(emitter, out, index.array, index.to, index.from),
         Numbering::Within => out.put(&[]),
     }
 }

@@ -1,5 +1,5 @@
 -- Cores that show nothing more are run up to a cycle, in sequence.
-use Rattle.std.proofs.Common.{◌≡◌, ℕ, ◌+◌, ◌<◌, ◌≤◌, List, [], ◌∷◌, ◌++◌, length, Some, refl, sym, ap, ◌∙◌, subst, ⊎_elim, arith}
+use Rattle.std.proofs.Common.{◌≡◌, ℕ, ◌+◌, ◌<◌, ◌≤◌, List, [], ◌∷◌, ◌++◌, length, Some, sym, ap, ◌∙◌, subst, ⊎_elim, arith}
 use Rattle.std.specs.Prelude.{slice_get}
 use Rattle.std.proofs.lemmas.Option.{same_Some, slice_get_within}
 use Rattle.std.proofs.lemmas.Bool.{cases_eq}
@@ -15,13 +15,6 @@ pub record FinishedSoFar {B : Type 0} (before now : List (Core B)) (n i : ℕ) :
   pub count : length now ≡ length before
   pub done : (k : ℕ) (c d : Core B) → k < i → slice_get before k ≡ Some c → slice_get now k ≡ Some d → LeftAt c n d
   pub rest : (k : ℕ) → i ≤ k → slice_get now k ≡ slice_get before k
-
-pub finish-first : {B : Type 0} (cores : List (Core B)) (n : ℕ) → FinishedSoFar cores cores n 0
-finish-first cores n = record {
-  count = refl;
-  done = λ k c d less there here. absurd (omega (arith, less));
-  rest = λ k past. refl;
-}
 
 module _ {B : Type 0} (before between after : List (Core B)) (n i : ℕ) (quiet : Quiet before n)
     (so_far : FinishedSoFar before between n i) where

@@ -1,7 +1,7 @@
 -- Cores that are run in turns, and what is reported of each.
 use Rattle.std.proofs.Common.{◌≡◌, ◌≢◌, ℕ, zero, suc, ◌+◌, ◌<◌, ◌≤◌, max, cond, ◌==◌, List, [], ◌∷◌, ◌++◌, length, get_or, drop, Contains, Option, Some, None, ◌⊎◌, inl, inr, refl, sym, ap, ◌∙◌, subst, ⊎_elim, arith, append_assoc}
 use Rattle.std.specs.Prelude.{slice_get, slice_set}
-use Rattle.std.proofs.lemmas.List.{append-nil, drop_all}
+use Rattle.std.proofs.lemmas.List.{append-nil}
 use Rattle.std.proofs.lemmas.Option.{same_Some, slice_get_within, slice_get-get_or}
 use Rattle.std.proofs.lemmas.Bool.{cases_eq, eq-eqb, ne_eqb}
 use Rattle.lt_isa.specs.Ranges.{IsInRange}
@@ -422,10 +422,3 @@ pub plays-stop_at : {B : Type 0} (before between after : List (Core B)) (turns :
 plays-stop_at before between after turns i d heard stand within so_far stopped =
     plays-stop before between after turns (drop (i + 1) turns) (get_or turns i d) heard stand
     (subst (λ left. PlayedSoFar before between turns left heard) (next-left turns i d within) so_far) stopped
-
-pub plays-all_at : {B : Type 0} (before now : List (Core B)) (turns : List Turn) (i : ℕ) → length turns ≤ i
-    → (heard : List Transfer → Type 0) → PlayedSoFar before now turns (drop i turns) heard
-    → (told : List Transfer) × Played before now (until turns) told × heard told
-plays-all_at before now turns i past heard so_far =
-    plays-all before now turns heard
-    (subst (λ left. PlayedSoFar before now turns left heard) (drop_all i turns past) so_far)

@@ -152,15 +152,6 @@ module _ {B : Type 0} (plan : List Share) (fits : IsPlan plan) (between : List (
 
 -- ---- one slot after the other
 
--- nothing was gone through yet
-pub goes-first : {B : Type 0} (cores : List (Core B)) (at n : ℕ) (heard : List Transfer → Type 0) → heard []
-    → GoOn cores cores at at n heard
-goes-first cores at n heard none first told so_far = record {
-  more = [];
-  joined = subst (λ l. JoinedSoFar first cores l at n) (sym (append-nil told)) so_far;
-  hears = none;
-}
-
 pub goes-then : {B W : Type 0} (one two three : List (Core B)) (at mid to n : ℕ)
     (hears : W → List Transfer → W → Type 0) (was is later : W) → HearsThen hears was is later
     → GoOn one two at mid n (λ l. hears was l is) → GoOn two three mid to n (λ l. hears is l later)
@@ -464,20 +455,6 @@ all-joined before now at n hears was is later chain live on quiet last = (
       (λ k c there. core-of now k (omega (arith, slice_get_within before k c there, on.joined.count))),
   subst (λ l. hears was l later) (append-nil on.more) (chain on.more [] on.hears last),
 )
-
-pub join-failed : {B W : Type 0} (before : List (Core B)) (n : ℕ) (hears : W → List Transfer → W → Type 0)
-    (was is_now : W) (torn : Transfer → Type 0) → NoneHalted before → JoinFailed before [] n hears was is_now torn
-    → (joined : List Transfer) → IsJoined (traces_to before n) joined → FailedAt hears was is_now torn joined
-join-failed before n hears was is_now torn live failed joined is =
-    let found = failed.front live joined is in
-    record {
-      told = failed.more;
-      next = failed.next;
-      rest = found.0;
-      front = found.1;
-      heard = failed.heard;
-      at = failed.at;
-    }
 
 -- nothing was reported yet, and more is reported
 pub joined-first : {B : Type 0} (cores : List (Core B)) (n : ℕ) (heard : List Transfer → Type 0) → heard []

@@ -20,7 +20,7 @@ use Rattle.call_laws.specs.Sharing.{AreRead}
 use Rattle.call_steps.specs.Steps.{with_accepted, with_inputs}
 use Rattle.call_replies.specs.Texts.{Said, comes_to, no_memory}
 use Rattle.call_steps.specs.Work.{Work}
-use Rattle.call_steps.proofs.Reaching.{not-begun, out-of-memory, then-reached, then-stopped, with-verdict}
+use Rattle.call_steps.proofs.Reaching.{out-of-memory, then-reached, then-stopped, with-verdict}
 
 -- ---- the plan's result is the computed one
 
@@ -131,9 +131,6 @@ next-pair (p ∷ pairs) (suc i) d within = next-pair pairs i d (omega arith)
 abbrev pub HasRead : Stage → Stage → List Pair → ℕ → Read → Type 0
 HasRead before now pairs i read = (next : Read → Work)
     → HasReached before now (with_cores pairs 0 none_read next) (with_cores (drop i pairs) i read next)
-
-pub reads-first : {before : Stage} (pairs : List Pair) → HasRead before before pairs 0 none_read
-reads-first pairs next = not-begun
 
 module _ {before now : Stage} (pairs : List Pair) (i : ℕ) (item : Pair) (within : i < length pairs)
     (read : Read) (has : HasRead before now pairs i read) (at : item ≡ get_or pairs i item)

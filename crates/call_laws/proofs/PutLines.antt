@@ -1,5 +1,5 @@
 -- The bytes of a sink to which a watcher writes lines in sequence.
-use Rattle.std.proofs.Common.{◌≡◌, ℕ, ◌+◌, ◌<◌, Bool, true, false, List, [], ◌++◌, length, take, drop, Option, Some, None, IfSome, refl, sym, ap, ◌∙◌, subst, arith, length-append, append_assoc}
+use Rattle.std.proofs.Common.{◌≡◌, ℕ, ◌+◌, ◌<◌, Bool, true, false, List, [], ◌++◌, length, take, drop, Option, Some, None, refl, sym, ap, ◌∙◌, arith, length-append, append_assoc}
 use Rattle.std.proofs.lemmas.List.{append-nil, take-append-le}
 use Rattle.std.proofs.Math.Seq.{take-append-add, take-append_seam, drop-append_seam}
 use Rattle.gr_base.specs.Added.{Adds, AddsLess}
@@ -29,54 +29,6 @@ line_held (Some b) (Some n) start stop mark line added text lines = more-lines b
 line_held (Some b) None start stop mark line added text lines = tt
 line_held None (Some n) start stop mark line added text lines = absurd added
 line_held None None start stop mark line added text lines = tt
-
--- a proper prefix of a line was written after complete lines
-less-lines : (before now : List ℕ) (start stop mark n : ℕ) (text : List ℕ) (line : List ℕ)
-    → now ≡ before ++ take n line → mark ≡ length before → Lines before start stop true text
-    → Lines now start mark false text
-less-lines before now start stop mark n text line added marked lines =
-    let before_all : before ≡ lines.head ++ text =
-    lines.all ∙ ap (λ t. lines.head ++ text ++ t) (lines.nothing_more refl)
-    ∙ append-nil (lines.head ++ text) in
-    record {
-      head = lines.head;
-      tail = take n line;
-      all = added ∙ ap (λ l. l ++ take n line) before_all;
-      begins = lines.begins;
-      stops = λ e. sym (marked ∙ ap length before_all);
-      nothing_more = λ e. absurd (let f : ◌≡◌ {A = Bool} false true = e in cc);
-    }
-
-pub part_held : (before now : Option (List ℕ)) (start stop mark : ℕ) (line : List ℕ)
-    → AddsLess before now line → IfSome before (λ bytes. mark ≡ length bytes) → (text : List ℕ)
-    → HoldsLines before start stop true text → HoldsLines now start mark false text
-part_held (Some b) (Some n) start stop mark line less marked text lines =
-    less-lines b n start stop mark less.0 text line less.2 marked lines
-part_held (Some b) None start stop mark line less marked text lines = tt
-part_held None (Some n) start stop mark line less marked text lines = absurd less
-part_held None None start stop mark line less marked text lines = tt
-
--- a part of a line follows after the mark
-pub torn_line : (b n : List ℕ) (mark : ℕ) (line : List ℕ)
-    → (less : AddsLess (Some b) (Some n) line) → mark ≡ length b → HoldsPart n mark line
-torn_line b n mark line less marked = (
-  less.0,
-  less.1,
-  subst (λ m. drop m n ≡ take less.0 line) (sym marked)
-      (ap (drop (length b)) less.2 ∙ drop-append_seam b (take less.0 line)),
-)
-
-pub added_grows : (before now : Option (List ℕ)) (piece : List ℕ) → Adds before now piece → Grows before now
-added_grows (Some b) (Some n) piece added = (piece, added)
-added_grows (Some b) None piece added = tt
-added_grows None (Some n) piece added = absurd added
-added_grows None None piece added = tt
-
-pub cut_grows : (before now : Option (List ℕ)) (piece : List ℕ) → AddsLess before now piece → Grows before now
-cut_grows (Some b) (Some n) piece less = (take less.0 piece, less.2)
-cut_grows (Some b) None piece less = tt
-cut_grows None (Some n) piece less = absurd less
-cut_grows None None piece less = tt
 
 -- what the sink held when the watcher was made is the head of the lines
 head-first : (before now : List ℕ) (start stop stop' : ℕ) (whole : Bool) (text : List ℕ)

@@ -1,5 +1,5 @@
 -- The bytes of a sink to which a watcher writes the lines of events.
-use Rattle.std.proofs.Common.{◌≡◌, ℕ, ◌<◌, Bool, true, false, List, [], ◌∷◌, ◌++◌, length, map, take, Option, Some, None, IfSome, refl, sym, ap, ◌∙◌, subst, arith, length-append}
+use Rattle.std.proofs.Common.{◌≡◌, ℕ, ◌<◌, Bool, true, false, List, [], ◌∷◌, ◌++◌, length, map, take, Option, Some, None, refl, sym, ap, ◌∙◌, subst, arith, length-append}
 use Rattle.std.proofs.lemmas.List.{append-nil}
 use Rattle.std.proofs.lemmas.Grind.{flat_map-append}
 use Rattle.gr_base.specs.Added.{Adds, AddsLess}
@@ -10,7 +10,7 @@ use Rattle.banks.specs.declared.bank.Leaves.{Leaves}
 use Rattle.processor.specs.Watching.{WatcherTold, AnEvent, APath, TellsMore, events_in}
 use Rattle.run_data.specs.PathText.{leaves_text}
 use Rattle.call_laws.specs.Watched.{Lines, HoldsLines, HoldsTold, Tears, Grows, kept}
-use Rattle.call_laws.proofs.PutLines.{cut_at_next, line_held, lines_put, part_held, torn_line}
+use Rattle.call_laws.proofs.PutLines.{cut_at_next, line_held, lines_put}
 use Rattle.call_steps.specs.Showing.{IsTraceText, shown_line, shown_lines}
 
 -- events that the watcher received in two parts
@@ -74,30 +74,6 @@ pub path_untold : (held : Option (List ℕ)) (start stop : ℕ) (whole : Bool) (
 path_untold held start stop whole stamp bank leaves told lines =
     subst (λ l. HoldsLines held start stop whole (shown_lines l))
     (sym (kept-append false told (APath stamp bank leaves ∷ []) ∙ append-nil (kept false told))) lines
-
-pub seen_kept : (paths : Bool) (before now : Option (List ℕ)) (start stop mark : ℕ) (line : List ℕ)
-    → AddsLess before now line → IfSome before (λ bytes. mark ≡ length bytes)
-    → TellsMore (HoldsTold paths before start stop true) (HoldsTold paths now start mark false) []
-seen_kept paths before now start stop mark line less marked told lines =
-    subst (HoldsTold paths now start mark false) (sym (append-nil told))
-    (part_held before now start stop mark line less marked (shown_lines (kept paths told)) lines)
-
-pub seen_torn : (paths : Bool) (before now : Option (List ℕ)) (mark : ℕ) (s : Stamped)
-    → AddsLess before now (shown_line (AnEvent s)) → IfSome before (λ bytes. mark ≡ length bytes)
-    → Tears paths now mark (AnEvent s)
-seen_torn paths (Some b) (Some n) mark s less marked = torn_line b n mark (shown_line (AnEvent s)) less marked
-seen_torn paths (Some b) None mark s less marked = tt
-seen_torn paths None (Some n) mark s less marked = absurd less
-seen_torn paths None None mark s less marked = tt
-
-pub path_torn : (before now : Option (List ℕ)) (mark stamp bank : ℕ) (leaves : Leaves)
-    → AddsLess before now (shown_line (APath stamp bank leaves)) → IfSome before (λ bytes. mark ≡ length bytes)
-    → Tears true now mark (APath stamp bank leaves)
-path_torn (Some b) (Some n) mark stamp bank leaves less marked =
-    torn_line b n mark (shown_line (APath stamp bank leaves)) less marked
-path_torn (Some b) None mark stamp bank leaves less marked = tt
-path_torn None (Some n) mark stamp bank leaves less marked = absurd less
-path_torn None None mark stamp bank leaves less marked = tt
 
 -- all the lines were written
 pub events_put : (before now : Option (List ℕ)) (start stop stop' : ℕ) (events : List WatcherTold)

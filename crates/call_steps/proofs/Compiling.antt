@@ -1,51 +1,25 @@
 -- From a program and its object file to the text that is printed.
-use Rattle.std.proofs.Common.{◌≡◌, Bool, inl, inr, ℕ, ◌≤◌, List, length, Result, Ok, Err, IfOk, OnOk, refl, sym, subst, arith}
-use Rattle.gr_base.specs.Lists.{Within}
-use Rattle.lt_isa.specs.declared.profiles.Profile.{Profile}
+use Rattle.std.proofs.Common.{◌≡◌, Bool, inl, inr, ℕ, ◌≤◌, List, length, Result, Ok, Err, IfOk, OnOk, refl, subst}
 use Rattle.lt_isa.specs.declared.profiles.Latencies.{Latencies}
 use Rattle.lt_isa.specs.Object.{Parts, usual_latencies}
-use Rattle.lt_isa.specs.Ranges.{IsInRange, ProfileFits}
+use Rattle.lt_isa.specs.Ranges.{IsInRange}
 use Rattle.object_file.specs.Spelling.{spelling}
 use Rattle.src_tree.specs.Trees.{Source}
 use Rattle.trace_patterns.specs.Accepts.{Accepts}
 use Rattle.block_cache_gen.specs.StoredWords.{stored_words}
 use Rattle.code_gen.specs.declared.compiling.CompileError.{CompileError}
 use Rattle.code_gen.specs.declared.compiling.CompileError.TheVariants as room
-use Rattle.code_gen.specs.Compiles.{IsFor, LatenciesFit, stores_by}
+use Rattle.code_gen.specs.Compiles.{IsFor, stores_by}
 use Rattle.code_gen.specs.Implements.{Implements}
 use Rattle.call_replies.specs.declared.replies.Verdict.TheVariants.{BadSource}
 use Rattle.call_replies.specs.Texts.{Said}
 use Rattle.call_steps.specs.Questions.{WhichCompiled}
 use Rattle.call_steps.specs.Compiled.{HasLayoutFor, HasRoom, IsCompiledTo, LacksRoom, held_for, most_code, plan_for, source_for, room_fault}
-use Rattle.command_words.specs.Windows.{WindowFits, windowed_profile}
-use Rattle.command_words.specs.declared.windows.Window.{Window}
 use Rattle.call_steps.specs.declared.targets.Target.{Target}
 use Rattle.call_steps.specs.Compile.{on_compiled}
 use Rattle.call_steps.specs.Progress.{EndsWorkWith, SaysSource}
 
 -- ---- the usual machine
-
--- the usual profile with a window is in range
-pub windowed-fits : (w : ℕ) (window : Window) (profile : Profile) → Within 3 9 w → WindowFits window
-    → profile ≡ windowed_profile w window → ProfileFits profile
-windowed-fits w window profile within fits is = subst ProfileFits (sym is) (record {
-  block_log = within;
-  alu = (omega arith, omega arith);
-  mul = (omega arith, omega arith);
-  word = (omega arith, omega arith);
-  taken = (omega arith, omega arith);
-  period = (omega (arith, fits.opens, fits.closes.1), fits.period);
-  opens = omega (arith, fits.opens, fits.closes.1);
-  closes = fits.closes;
-})
-
--- the usual latencies are in range
-pub usual-latencies : (latencies : Latencies) → latencies ≡ usual_latencies → LatenciesFit latencies
-usual-latencies latencies is = subst LatenciesFit (sym is) (record {
-  ram = (omega arith, omega arith);
-  eram = (omega arith, omega arith);
-  oram = (omega arith, omega arith);
-})
 
 -- the bytes of an object that was compiled for it
 pub spelling-compiled : (p : Source) (target : Target) (latencies : Latencies) (o : Parts)

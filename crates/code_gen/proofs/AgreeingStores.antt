@@ -11,11 +11,9 @@ use Rattle.src_tree.specs.Limits.{IsWithinLimits}
 use Rattle.src_tree.specs.Meaning.{Store, variable_number, words_of_number}
 use Rattle.src_tree.specs.Typing.{DeclaredOnce}
 use Rattle.flow_types.specs.Wants.{declared_wants}
-use Rattle.bank_alloc.specs.Fits.{Fits}
-use Rattle.bank_alloc.specs.Layout.{HasLayout, IsLaidOut}
+use Rattle.bank_alloc.specs.Layout.{IsLaidOut}
 use Rattle.src_tree.proofs.VariableNumbers.{number-of_declared}
-use Rattle.scratch_alloc.specs.Plans.{Plan, IsSoundPlan, no_decl, standard_plan}
-use Rattle.scratch_alloc.proofs.StandardPlan.{standard_sound_at}
+use Rattle.scratch_alloc.specs.Plans.{Plan, IsSoundPlan, no_decl}
 use Rattle.block_cache_gen.specs.Settings.{setting_for}
 use Rattle.code_gen.specs.AgreeingStores.{AgreeOnPublic}
 use Rattle.code_gen.specs.Implements.{by_name}
@@ -62,11 +60,3 @@ planned-inputs_agree p w plan once limits sound o layout one other first second 
         ∙ agree k (get_or p.decls k no_decl) (slice_get-get_or p.decls k no_decl variable.below)
         (sym (ap (λ t. t.label) variable.is) ∙ public)
         ∙ ap (words_of_number other) (sym number)
-
--- the same without --fast
-pub inputs-agree : (p : Source) (w : ℕ)
-    → DeclaredOnce p.decls → IsWithinLimits p → Fits p w → (o : Parts) → HasLayout p w o
-    → (one other : Store) → FitsWants (declared_wants p.decls) one → FitsWants (declared_wants p.decls) other
-    → AgreeOnPublic p.decls one other → Agree o (by_name p o one) (by_name p o other)
-inputs-agree p w once limits room o layout =
-    planned-inputs_agree p w (standard_plan p w) once limits (standard_sound_at p w limits room) o layout

@@ -83,9 +83,6 @@ pub some-items : (n : ℕ) → (n == 0) ≡ false → 1 ≤ n
 some-items zero is = absurd (true≢false is)
 some-items (suc n) is = omega arith
 
-pub within : (a b n : ℕ) → b ≤ n → a ≤ b → a ≤ n
-within a b n most few = omega arith
-
 -- the notes from the end of the first block on
 choice_notes-is : (f : Setting) (place : ℕ) (first code : List Instr) (notes others : List Note) (ends : Bool × Bool)
     → choice_notes f place first code notes others ends

@@ -14,10 +14,8 @@ use Rattle.src_tree.specs.Typing.{DeclaredOnce}
 use Rattle.src_tree.proofs.VariableNumbers.{number-of_declared}
 use Rattle.flow_types.specs.Wants.{declared_want, declared_wants}
 use Rattle.bank_alloc.specs.declared.places.Place.{Place}
-use Rattle.bank_alloc.specs.Fits.{Fits}
-use Rattle.bank_alloc.specs.Layout.{HasLayout, IsLaidOut, placed_symbol}
-use Rattle.scratch_alloc.specs.Plans.{Plan, IsSoundPlan, no_decl, no_place, standard_plan}
-use Rattle.scratch_alloc.proofs.StandardPlan.{standard_sound_at}
+use Rattle.bank_alloc.specs.Layout.{IsLaidOut, placed_symbol}
+use Rattle.scratch_alloc.specs.Plans.{Plan, IsSoundPlan, no_decl, no_place}
 use Rattle.block_cache_gen.specs.Settings.{setting_for}
 use Rattle.code_gen.specs.Implements.{by_name}
 use Rattle.code_gen.proofs.ByName.{IsVariable, setting-of, symbols-variables}
@@ -72,9 +70,3 @@ module _ (p : Source) (w : ℕ) (plan : Plan) (once : DeclaredOnce p.decls) (lim
           ∙ ap words (get_or-map declared_want p.decls k no_decl (declared_want no_decl) variable.below
           ∙ planned-want_is k variable.below
           ∙ ap want_of (sym variable.is))
-
--- the same without --fast
-pub inputs-wanted : (p : Source) (w : ℕ) → DeclaredOnce p.decls → IsWithinLimits p → Fits p w → (o : Parts)
-    → HasLayout p w o → (words : Want → List ℤ) → by_name p o (map words (declared_wants p.decls)) ≡ map words (wants_of o)
-inputs-wanted p w once limits room o layout words =
-    planned-inputs_wanted p w (standard_plan p w) once limits (standard_sound_at p w limits room) o layout words

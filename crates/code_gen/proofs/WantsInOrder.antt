@@ -18,10 +18,8 @@ use Rattle.src_tree.proofs.NamesDiffer.{names_differ}
 use Rattle.src_tree.proofs.VariableNumbers.{number-of_declared}
 use Rattle.flow_types.specs.Wants.{declared_want, declared_wants}
 use Rattle.bank_alloc.specs.declared.places.Place.{Place}
-use Rattle.bank_alloc.specs.Fits.{Fits}
-use Rattle.bank_alloc.specs.Layout.{HasLayout, IsLaidOut, placed_symbol, placed_symbols}
-use Rattle.scratch_alloc.specs.Plans.{Plan, IsSoundPlan, no_decl, no_place, standard_plan}
-use Rattle.scratch_alloc.proofs.StandardPlan.{standard_sound_at}
+use Rattle.bank_alloc.specs.Layout.{IsLaidOut, placed_symbol, placed_symbols}
+use Rattle.scratch_alloc.specs.Plans.{Plan, IsSoundPlan, no_decl, no_place}
 use Rattle.code_gen.proofs.WantedInputs.{planned-want_is}
 
 -- what variables want is what their symbols want
@@ -42,12 +40,6 @@ planned-wants_permuted p w plan once limits sound o layout =
     subst (λ wants. IsPermutation wants (wants_of o))
     (sym (wants-of_symbols p.decls plan.places sound.places (planned-want_is p w plan once limits sound o layout)))
     (IsPermutation-map want_of (placed_symbols p.decls plan.places) o.symbols layout.symbols.each)
-
--- the same without --fast
-pub wants-permuted : (p : Source) (w : ℕ) → DeclaredOnce p.decls → IsWithinLimits p → Fits p w → (o : Parts)
-    → HasLayout p w o → IsPermutation (declared_wants p.decls) (wants_of o)
-wants-permuted p w once limits room o layout =
-    planned-wants_permuted p w (standard_plan p w) once limits (standard_sound_at p w limits room) o layout
 
 module _ (p : Source) (once : DeclaredOnce p.decls) where
   wanted : (k : ℕ) (d : Want) → k < length (declared_wants p.decls)

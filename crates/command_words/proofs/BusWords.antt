@@ -101,9 +101,6 @@ names-together names parts st =
     ∙ (λ i. st.none_before i ++ names-append (map AName names) st.after i)
     ∙ (λ i. names-all names i ++ st.none_after i) ∙ append-nil names
 
-pair_of : Text → Text → Pair
-pair_of object input = record { object = object; input = input }
-
 no-pairs : {X : Type 0} (a b : Text) (found : Option (List Pair))
     → option_map (λ pairs. record { object = a; input = b } ∷ pairs) found ≡ Some [] → X
 no-pairs a b None e = absurd (let f : ◌≡◌ {A = Option (List Pair)} None (Some []) = e in cc)

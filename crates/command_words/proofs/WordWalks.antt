@@ -57,9 +57,6 @@ pub both-none : (a b : Kinds) → or_else a b ≡ [] → (a ≡ []) × (b ≡ []
 both-none [] b none = (refl, none)
 both-none (k ∷ a) b none = absurd (true≢false (sym (ap is_empty_kinds none)))
 
-pub some-kind : {X : Type 0} (a b : Kinds) → or_else a b ≡ [] → (a ≡ [] → ⊥) → X
-some-kind a b none fault = absurd (fault (both-none a b none).0)
-
 module _ (s : Shape) where
   -- what is wrong with the words from a moment of the walk on, up to the end
   abbrev pub last : Walk → List Text → Walk

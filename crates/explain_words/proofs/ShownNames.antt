@@ -7,7 +7,7 @@ use Rattle.src_tree.specs.declared.trees.Decl.{Decl}
 use Rattle.src_tree.specs.Typing.{DeclaredOnce}
 use Rattle.src_tree.proofs.NamesDiffer.{names_differ}
 use Rattle.src_procs.specs.Inlined.{is_hidden}
-use Rattle.explain_words.specs.ShownNames.{AreShown, IsNew}
+use Rattle.explain_words.specs.ShownNames.{IsNew}
 
 -- The names of the first k variables. A variable that a call adds has a name that isn't declared.
 pub record ShownBelow (decls : List Decl) (k : ℕ) (names : List (List ℕ)) : Type 0 where
@@ -17,14 +17,6 @@ pub record ShownBelow (decls : List Decl) (k : ℕ) (names : List (List ℕ)) : 
   pub added : (i : ℕ) (d : Decl) → i < k → is_hidden (get_or decls i d).name ≡ true
       → All (λ (decl : Decl). decl.name ≢ get_or names i []) decls
   pub distinct : AllPairs (λ first second. first ≢ second) names
-
-pub none_shown : (decls : List Decl) → ShownBelow decls 0 []
-none_shown decls = record {
-  count = refl;
-  own = λ i d below _. absurd (omega (arith, below));
-  added = λ i d below _. absurd (omega (arith, below));
-  distinct = λ i j d less below. absurd (omega (arith, below));
-}
 
 -- what holds of the names before is kept by one more name
 kept : (k : ℕ) (names : List (List ℕ)) (name : List ℕ) → length names ≡ k
@@ -86,12 +78,3 @@ new_shown decls k names d name shown within is new =
     (get_or_default decls k d e within) is) ∙ own in cc))
     (λ e _. new.0)
     (λ i less. new.1 i [] (omega (arith, less, shown.count)))
-
--- the names of all variables
-pub all_shown : (decls : List Decl) (names : List (List ℕ)) → ShownBelow decls (length decls) names
-    → AreShown decls names
-all_shown decls names shown = record {
-  count = shown.count;
-  own = λ k d below is. shown.own k d below is;
-  distinct = shown.distinct;
-}

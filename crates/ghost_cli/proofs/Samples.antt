@@ -1,6 +1,5 @@
 -- The parts of a sample: what is made, its run and its figures.
-use Rattle.std.proofs.Common.{◌≡◌, Bool, ℕ, ℤ, ◌<◌, List, [], ◌∷◌, Some, length, refl, sym, ◌∙◌, subst, arith}
-use Rattle.gr_word.specs.Fitting.{AreWords, FitsWants, words_at}
+use Rattle.std.proofs.Common.{◌≡◌, Bool, ℕ, ℤ, List, Some, refl, sym, ◌∙◌, subst}
 use Rattle.lt_isa.specs.Object.{Parts}
 use Rattle.lt_isa.specs.Start.{trace, wants_of}
 use Rattle.lt_isa.specs.Trace.{HaltsAt}
@@ -15,7 +14,6 @@ use Rattle.ghost_cli.specs.declared.sample.SampleFile.{SampleFile}
 use Rattle.call_steps.specs.Compiled.{IsCompiledTo, plan_for}
 use Rattle.call_steps.specs.Histogram.{Made, IsMade, sample_profile, sample_target, sample_cycles, sample_inputs, sample_store, sample_trace, sample_words, sum_left}
 use Rattle.ghost_cli.specs.Sampled.{IsFileOf, SampleIsReady, RanSo}
-use Rattle.call_laws.specs.SampleTree.{sample_decls}
 use Rattle.call_laws.proofs.CompiledRuns.{compiled-runs}
 use Rattle.call_laws.proofs.OnTarget.{target-sound}
 use Rattle.ghost_cli.proofs.SampleInputs.{sample-fit}
@@ -81,10 +79,3 @@ file-made fast n p o bytes run file ready is ran spelled figured = record {
 }
 
 -- ---- the variables of the counts
-
-pub counts-listed : (n : ℕ) (values : List (List ℤ)) → FitsWants (declared_wants (sample_decls n)) values
-    → (2 < length values) × (length (words_at values 2) ≡ 16) × AreWords (words_at values 2)
-counts-listed n [] fits = absurd fits
-counts-listed n (i ∷ []) fits = absurd fits.2
-counts-listed n (i ∷ a ∷ []) fits = absurd fits.2.2
-counts-listed n (i ∷ a ∷ c ∷ values) fits = (omega arith, fits.2.2.0, fits.2.2.1)

@@ -26,9 +26,6 @@ same_files : (one two : Files) → ((q : List ℕ) → get one q ≡ get two q) 
 same_files one two same =
     same_map nat_list_cmp_total (slice_cmp-IsAntisymmetric nat_cmp-IsAntisymmetric) one two same
 
-dash_is_dash : is_one dash dash ≡ true
-dash_is_dash = refl
-
 pub get_dash : (own : Option (List ℕ)) (files : Files) → get (overlaid own files) dash ≡ own
 get_dash own files = get-overlaid own files dash
 

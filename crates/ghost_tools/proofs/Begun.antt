@@ -29,13 +29,6 @@ pub counts-begun : {E : Type 0} (o : Parts) (inputs : List (List ℤ)) (n : ℕ)
 counts-begun o inputs n p s same start result is =
     subst (λ l. IfOk result (λ tally. CountsEvents tally l)) (trace-begun o inputs n p s same start) is
 
--- what is proved of a machine that has just begun, of any kind
-pub begun-is : {X E : Type 0} (P : Parts → State → X → Type 0) (o : Parts) (inputs : List (List ℤ)) (p : Parts) (s : State)
-    → p ≡ o → s ≡ start_state o inputs → (result : Result X E) → IfOk result (P p s)
-    → IfOk result (P o (start_state o inputs))
-begun-is P o inputs p s same start result is =
-    subst (λ t. IfOk result (P o t)) start (subst (λ q. IfOk result (P q s)) same is)
-
 -- a run begins at the first place and cycle
 pub first-place : (o : Parts) (inputs : List (List ℤ)) → (start_state o inputs).place ≡ 0
 unfolding start_state

@@ -1,9 +1,9 @@
 -- Counts, event by event.
-use Rattle.std.proofs.Common.{◌≡◌, ℕ, ◌+◌, ◌<◌, ◌^◌, ◌==◌, nat_lt, get_or, set, replicate, Bool, true, false, cond, List, [], ◌∷◌, ◌++◌, length, Option, Some, None, refl, sym, ap, ◌∙◌, subst, ⊎_elim, arith, append_assoc, lt-ltb, le-ltb}
+use Rattle.std.proofs.Common.{◌≡◌, ℕ, ◌+◌, ◌<◌, ◌^◌, ◌==◌, nat_lt, get_or, set, replicate, Bool, true, false, cond, List, [], ◌∷◌, ◌++◌, length, Option, Some, refl, sym, ap, ◌∙◌, subst, ⊎_elim, arith, append_assoc, lt-ltb, le-ltb}
 use Rattle.std.proofs.Math.Nat.{min-eq_left}
 use Rattle.std.proofs.lemmas.Bool.{cases_lt}
 use Rattle.std.proofs.lemmas.Bool.Decides.{eqb_tells}
-use Rattle.std.proofs.lemmas.List.{append-nil, get_or-set_same, get_or-set_other, length-append, length-set, get_or-replicate, length-replicate}
+use Rattle.std.proofs.lemmas.List.{get_or-set_same, get_or-set_other, length-append, length-set, get_or-replicate, length-replicate}
 use Rattle.std.proofs.lemmas.List.Sums.{count_by-le-length, sum_by_push}
 use Rattle.lt_isa.specs.Machine.{Observed, RamRead, RamWrite, EncRead, EncWrite, Oram, Halted}
 use Rattle.lt_isa.specs.Trace.{Stamped}
@@ -120,12 +120,6 @@ pub tallied-found : (events left left' : List Stamped) (before after : Tally) (f
 tallied-found events left left' before after found event so_far takes is more short =
     let takes' : TakesNext left (Some event) left' = subst (λ e. TakesNext left e left') is takes in
     tallied-next events left left' before after event so_far takes' more short
-
-pub tallied-over : (events left left' : List Stamped) (tally : Tally) → CountedSoFar events left tally
-    → TakesNext left None left' → CountsEvents tally events
-tallied-over events left left' tally so_far takes =
-    subst (CountsEvents tally) (sym (so_far.is ∙ ap (λ l. so_far.done ++ l) takes.0 ∙ append-nil so_far.done))
-    so_far.counts
 
 zeros-at : (banks b none : ℕ) → b < banks → get_or (replicate banks none) b none ≡ none
 zeros-at banks b none within = get_or-replicate banks b none none within

@@ -40,10 +40,6 @@ pub secret_copy : (b : Bool) → (b || true) ≡ true
 secret_copy true = refl
 secret_copy false = refl
 
-pub public_copy : (b : Bool) → (b || false) ≡ b
-public_copy true = refl
-public_copy false = refl
-
 -- In an arm a copy that adds what has no tree has none.
 pub hidden_copy : (t : Option Value) → applied_trees Add t None ≡ None
 hidden_copy None = refl

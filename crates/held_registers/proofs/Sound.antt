@@ -1,10 +1,9 @@
 -- What the zeros, the first scalars and some numbers hold is sound.
-use Rattle.std.proofs.Common.{◌≡◌, ℕ, ◌+◌, ◌-◌, ◌<◌, ◌≤◌, ◌⊎◌, inl, inr, ⊎_elim, Bool, true, false, ◌&&◌, ℤ, pos, List, [], ◌∷◌, ◌++◌, length, zero, suc, drop, get_or, subst, Option, Some, None, refl, sym, ap, ◌∙◌, arith, length-append}
+use Rattle.std.proofs.Common.{◌≡◌, ℕ, ◌+◌, ◌-◌, ◌<◌, ◌⊎◌, inl, inr, ⊎_elim, Bool, true, false, ◌&&◌, ℤ, pos, List, [], ◌∷◌, ◌++◌, length, zero, suc, drop, subst, Option, Some, None, refl, sym, ap, ◌∙◌, arith, length-append}
 use Rattle.std.specs.Prelude.{nat_lt, is_none, is_some, if◌then◌else◌}
 use Rattle.std.specs.List.{slice_get, position}
 use Rattle.std.specs.Option.{option_map}
 use Rattle.std.proofs.lemmas.Bool.{ltb-true, ltb-false}
-use Rattle.std.proofs.lemmas.List.{drop_more, drop_all}
 use Rattle.gr_word.specs.Words.{IsWord}
 use Rattle.src_tree.specs.declared.trees.Decl.{Decl}
 use Rattle.held_registers.specs.declared.registers.Held.{Held}
@@ -206,17 +205,6 @@ with_number-sound decls held z some word sound =
         (λ n e. absurd (no_scalar z n e))
         (λ n r e at. no_scalar z n e)
         (λ y e. subst IsWord (number-same z y e) word)
-
--- the code's loop: what is held so far and the declarations that are left
-pub scalars-more : (decls : List Decl) (held : List Held) (i : ℕ) (d : Decl) → i < length decls
-    → scalars_behind held i (drop i decls) ≡ held_scalars decls
-    → scalars_behind (with_scalar held i (get_or decls i d)) (i + 1) (drop (i + 1) decls) ≡ held_scalars decls
-scalars-more decls held i d within so_far =
-    ap (scalars_behind held i) (sym (drop_more decls i d within)) ∙ so_far
-
-pub scalars-all : (decls : List Decl) (held : List Held) (i : ℕ) → length decls ≤ i
-    → scalars_behind held i (drop i decls) ≡ held_scalars decls → held ≡ held_scalars decls
-scalars-all decls held i past so_far = ap (scalars_behind held i) (sym (drop_all i decls past)) ∙ so_far
 
 -- before the first declaration
 pub scalars-begin : (decls : List Decl) (held : List Held) → held ≡ zeros

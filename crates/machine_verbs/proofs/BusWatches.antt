@@ -1,5 +1,5 @@
 -- The bytes of a sink to which a watcher of a bus writes the lines of transfers.
-use Rattle.std.proofs.Common.{◌≡◌, ℕ, ◌<◌, true, false, List, [], ◌∷◌, ◌++◌, length, Option, Some, None, IfSome, sym, ap, ◌∙◌, subst, arith, length-append}
+use Rattle.std.proofs.Common.{◌≡◌, ℕ, ◌<◌, true, false, List, [], ◌∷◌, ◌++◌, length, Option, Some, None, sym, ap, ◌∙◌, subst, arith, length-append}
 use Rattle.std.proofs.lemmas.List.{append-nil}
 use Rattle.std.proofs.lemmas.Grind.{flat_map-append}
 use Rattle.std.specs.Prelude.{codes, decimal}
@@ -10,7 +10,7 @@ use Rattle.run_data.specs.TraceText.{event_line, event_text}
 use Rattle.bus_arbiter.specs.Transfers.{Transfer}
 use Rattle.call_steps.specs.Showing.{halt_text, transfer_line, transfer_lines}
 use Rattle.call_laws.specs.Watched.{Grows, HoldsLines, HoldsTransfers, TearsTransfer}
-use Rattle.call_laws.proofs.PutLines.{cut_at_next, line_held, part_held, torn_line}
+use Rattle.call_laws.proofs.PutLines.{cut_at_next, line_held}
 
 -- ---- no line is empty
 
@@ -42,21 +42,6 @@ pub transfer_told : (before now : Option (List ℕ)) (start stop mark : ℕ) (t 
 transfer_told before now start stop mark t added told lines =
     subst (HoldsLines now start mark true) (sym (lines-more told t))
     (line_held before now start stop mark (transfer_line t) added (transfer_lines told) lines)
-
-pub transfer_kept : (before now : Option (List ℕ)) (start stop mark : ℕ) (line : List ℕ)
-    → AddsLess before now line → IfSome before (λ bytes. mark ≡ length bytes)
-    → TellsMore (HoldsTransfers before start stop true) (HoldsTransfers now start mark false) []
-transfer_kept before now start stop mark line less marked told lines =
-    subst (λ l. HoldsLines now start mark false (transfer_lines l)) (sym (append-nil told))
-    (part_held before now start stop mark line less marked (transfer_lines told) lines)
-
-pub transfer_torn : (before now : Option (List ℕ)) (mark : ℕ) (t : Transfer)
-    → AddsLess before now (transfer_line t) → IfSome before (λ bytes. mark ≡ length bytes)
-    → TearsTransfer now mark t
-transfer_torn (Some b) (Some n) mark t less marked = torn_line b n mark (transfer_line t) less marked
-transfer_torn (Some b) None mark t less marked = tt
-transfer_torn None (Some n) mark t less marked = absurd less
-transfer_torn None None mark t less marked = tt
 
 -- ---- a whole run
 

@@ -1,5 +1,5 @@
 -- From the runs on a bus to the printed lines, and how its work ends.
-use Rattle.std.proofs.Common.{◌≡◌, inl, inr, ℕ, zero, suc, ◌+◌, ◌<◌, ◌≤◌, ℤ, Bool, true, false, ◌&&◌, List, [], ◌∷◌, ◌++◌, length, drop, get_or, map, take, take-append-drop, Option, Some, None, is_some, refl, sym, ap, ap₂, ◌∙◌, subst, arith, append_assoc, length-append}
+use Rattle.std.proofs.Common.{◌≡◌, inl, inr, ℕ, zero, suc, ◌+◌, ◌<◌, ◌≤◌, ℤ, Bool, true, false, ◌&&◌, List, [], ◌∷◌, ◌++◌, length, drop, get_or, take, take-append-drop, Option, Some, None, is_some, refl, sym, ap, ap₂, ◌∙◌, subst, arith, append_assoc, length-append}
 use Rattle.std.specs.Prelude.{codes, decimal, slice_get}
 use Rattle.std.proofs.lemmas.List.{append-nil, length-map, length-take-le}
 use Rattle.gr_base.specs.Added.{Adds, AddsLess}
@@ -11,7 +11,6 @@ use Rattle.lt_isa.specs.Machine.{State}
 use Rattle.lt_isa.specs.Object.{Parts}
 use Rattle.lt_isa.specs.Ranges.{IsInRange}
 use Rattle.lt_isa.specs.Start.{FitsObject, start_state}
-use Rattle.bus_arbiter.specs.Shares.{share_at, share_of}
 use Rattle.lt_isa.specs.Trace.{Stamped, trace_from}
 use Rattle.processor.specs.Ends.{EndsAs}
 use Rattle.bus_arbiter.specs.Cores.{Core, LeftIf, RanTo, end_as, trace_to, traces_to}
@@ -96,12 +95,6 @@ fit-count [] [] all = refl
 fit-count [] (d ∷ ds) all = absurd all
 fit-count (o ∷ os) [] all = absurd all
 fit-count (o ∷ os) (d ∷ ds) all = ap suc (fit-count os ds all.2)
-
-pub share-at : (os : List Parts) (k : ℕ) (p : Parts) → k < length os
-    → share_at (map share_of os) k ≡ share_of (get_or os k p)
-share-at [] k p within = absurd (omega (arith, within))
-share-at (o ∷ os) zero p within = refl
-share-at (o ∷ os) (suc k) p within = share-at os k p (omega (arith, within))
 
 pub start-place : (o : Parts) (d : List (List ℤ)) → (start_state o d).place ≡ 0
 unfolding start_state

@@ -1,11 +1,10 @@
 -- A tree whose path was moved into the stash.
 use Rattle.std.proofs.Common.{◌≡◌, ℕ, zero, suc, ◌+◌, ◌<◌, ◌≤◌, ◌≢◌, List, [], ◌++◌, length, get_or, set, refl, sym, ap, subst, ◌∙◌, arith, append_assoc, ⊎_elim, get_or-set_same, get_or-set_other, length-set, length-append}
 use Rattle.std.specs.List.{All}
-use Rattle.std.proofs.Math.ListN.{get_or-append}
 use Rattle.std.proofs.lemmas.List.Elements.{All-set}
 use Rattle.std.specs.List.Sorted.{IsPermutation}
 use Rattle.std.proofs.lemmas.List.{append-nil}
-use Rattle.std.proofs.lemmas.List.Sorted.{IsPermutation-refl, IsPermutation-trans, length_permutation, All-permutation}
+use Rattle.std.proofs.lemmas.List.Sorted.{IsPermutation-refl, IsPermutation-trans, length_permutation}
 use Rattle.std.proofs.lemmas.Bool.{cases_eq}
 use Rattle.path_oram.specs.Places.{held, path_blocks, all_blocks}
 use Rattle.path_oram.specs.Pouring.{poured}
@@ -109,19 +108,6 @@ stash_more path tree now old stash level number differ so_far is held_by =
     (poured_off path tree level (path level) differ) in
     subst (λ n. stash ++ held now number ≡ old ++ path_blocks path tree n) next
     (rw (same, held_by) (append_assoc old (path_blocks path tree level) (held tree (path level))))
-
--- a property of all blocks holds for those of the hand
-pub poured_each :
-    (P : ℕ → Type 0) (path : ℕ → ℕ) (stash : List ℕ) (tree : List (List ℕ)) (n : ℕ)
-    → ((l : ℕ) → l < n → path l < length tree)
-    → ((a b : ℕ) → a < n → b < n → a ≢ b → path a ≢ path b)
-    → All P (all_blocks stash tree) → All P (stash ++ path_blocks path tree n)
-poured_each P path stash tree n within differ each k d below =
-    let hand = stash ++ path_blocks path tree n in
-    let rest = everything (poured path tree n) in
-    let all : All P (hand ++ rest) = All-permutation P (all_blocks stash tree) (hand ++ rest)
-    (poured_all path stash tree n within differ) each in
-    subst P (get_or-append hand rest d k below) (all k d (omega (arith, length-append hand rest)))
 
 -- no bucket has more blocks than before
 pub poured_most : (path : ℕ → ℕ) (tree : List (List ℕ)) (n : ℕ) → All (λ bucket. length bucket ≤ 4) tree

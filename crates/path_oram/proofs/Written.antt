@@ -1,12 +1,12 @@
 -- An access is the greedy write-back, and each block is stored once afterwards, as before.
 use Rattle.std.proofs.Common.{◌≡◌, ℕ, suc, ◌+◌, ◌^◌, ◌<◌, ◌≤◌, ◌≢◌, min, List, [], ◌++◌, length, get_or, set, take, drop, false, refl, sym, ap, subst, ◌∙◌, arith, ⊎_elim, get_or-set_other, length-set, length-append}
-use Rattle.std.specs.List.{All, count_by, range_with_len}
+use Rattle.std.specs.List.{count_by, range_with_len}
 use Rattle.std.proofs.lemmas.List.{take_all, drop_all, append-nil}
 use Rattle.std.proofs.lemmas.List.Elements.{All-set}
-use Rattle.std.proofs.lemmas.List.Sorted.{IsPermutation-trans, length_permutation, All-permutation}
+use Rattle.std.proofs.lemmas.List.Sorted.{IsPermutation-trans, length_permutation}
 use Rattle.std.proofs.lemmas.Bool.{cases_eq, cases_lt, eqb-true}
 use Rattle.std.proofs.lemmas.Nat.{pow_pos}
-use Rattle.std.proofs.lemmas.List.FromFn.{length-range_with_len, get_or-range_with_len}
+use Rattle.std.proofs.lemmas.List.FromFn.{length-range_with_len}
 use Rattle.path_oram.specs.Places.{Places, held, index_on, on_path, bucket_number, path_blocks, passes_bucket, all_blocks}
 use Rattle.path_oram.specs.GreedyPath.{GreedyPath, IsOff}
 use Rattle.path_oram.specs.Whole.{IsWhole}
@@ -137,15 +137,6 @@ written_whole height leaves tree stash block leaf shown after kept whole exists 
           ap (λ l. index_on height l level) (get_or-set_other leaves block b leaf 0 differs) ∙ before))
           (cases_eq index (index_on height shown level));
     }
-
--- each block in the tree or in the stash is below the number of blocks
-pub whole_below : (p : Places) → IsWhole p → All (λ b. b < length p.leaves) (all_blocks p.stash p.tree)
-whole_below p whole =
-    All-permutation (λ b. b < length p.leaves) (range_with_len 0 (length p.leaves))
-    (all_blocks p.stash p.tree) whole.once
-    (λ k d less.
-    let within : k < length p.leaves = omega (arith, length-range_with_len 0 (length p.leaves)) in
-    omega (arith, get_or-range_with_len 0 (length p.leaves) k d within))
 
 -- the tree and the stash have as many blocks as there are leaves
 pub whole_length : (p : Places) → IsWhole p → length (all_blocks p.stash p.tree) ≡ length p.leaves

@@ -109,18 +109,3 @@ module _ {X : Type 0} (shows : X → List ℕ → List Leaves) (comes : X → Li
       let is : suc (suc (b - 2)) ≡ b = omega arith in
       subst (λ n. Accessed shows comes orams (set orams (b - 2) new) (record { bank = n; block = at }) leaves) is
       (accessed-at orams (b - 2) at old new leaves within read shown came)
-
--- an oblivious bank by its number
-pub oram-at : {X : Type 0} (orams : List X) (b : ℕ) (bank : X)
-    → 2 ≤ b → b - 2 < length orams → bank ≡ get_or orams (b - 2) bank → oram_of orams b ≡ Some bank
-oram-at orams b bank two within read =
-    let is : b ≡ suc (suc (b - 2)) = omega arith in
-    ap (λ n. oram_of orams n) is ∙ slice_get-get_or orams (b - 2) bank within ∙ ap Some (sym read)
-
--- the number of oblivious banks is that of the banks after the first two
-pub oram_exists : {X : Type 0} (f : X → List (List ℤ)) (p q : List (List ℤ)) (orams : List X)
-    (banks : List (List (List ℤ))) (b : ℕ)
-    → p ∷ q ∷ map f orams ≡ banks → 2 ≤ b → b < length banks → b - 2 < length orams
-oram_exists f p q orams banks b is two within =
-    let listed : b < length (p ∷ q ∷ map f orams) = subst (λ l. b < length l) (sym is) within in
-    omega (arith, length-map orams f)

@@ -1,8 +1,8 @@
 -- An access comes down one tree.
-use Rattle.std.proofs.Common.{nat_abs, ◌≡◌, ℕ, suc, ◌^◌, ◌<◌, ℤ, pos, List, [], ◌∷◌, ◌++◌, length, get_or, set, refl, sym, ap, ◌∙◌, arith, length-set}
+use Rattle.std.proofs.Common.{nat_abs, ◌≡◌, ℕ, suc, ◌^◌, ◌<◌, ℤ, pos, List, [], ◌∷◌, ◌++◌, length, get_or, refl, sym, ap, ◌∙◌}
 use Rattle.rand_core.specs.Stream.{Stream, next_u64}
 use Rattle.banks.specs.declared.bank.Leaves.{Leaves}
-use Rattle.banks.specs.Banks.{listed_leaves, one_leaf}
+use Rattle.banks.specs.Banks.{listed_leaves}
 use Rattle.path_oram.specs.Coming.{by-word}
 use Rattle.path_oram.specs.Moves.{MovesTo}
 use Rattle.path_oram.specs.Trees.{BlockTree, IsTree}
@@ -14,28 +14,6 @@ use Rattle.recursive_oram.specs.PositionMaps.{IsPositionMap, kept_leaf}
 use Rattle.recursive_oram.specs.RecursiveOrams.{LeadsEach, levels_of}
 use Rattle.recursive_oram.proofs.Kept.{map-replaced, with_kept}
 use Rattle.recursive_oram.proofs.Led.{shown-step}
-
--- no tree is above
-pub descent-plain : (below : BlockTree) (above : List BlockTree) (last plain : List ℕ) (words left : Stream)
-    (block was becomes : ℕ) (shown : Leaves)
-    → IsPositionMap below.places.leaves above last → length above ≡ 0 → was ≡ get_or last block 0
-    → becomes ≡ leaf_of below.places.height (next_u64 words).0 → becomes < 2 ^ below.places.height
-    → plain ≡ set last block becomes → left ≡ (next_u64 words).1 → shown ≡ one_leaf was
-    → IsDescent below above above plain words left block was becomes shown
-descent-plain below [] last plain words left block was becomes shown map none read made small put drawn is = record {
-  old = read ∙ ap (λ l. get_or l block 0) (sym map.0);
-  new = made;
-  small = small;
-  map = (
-    ap (λ l. set l block becomes) map.0 ∙ sym put,
-    omega (arith, map.1, length-set below.places.leaves block becomes),
-  );
-  led = tt;
-  listing = is ∙ ap one_leaf (read ∙ ap (λ l. get_or l block 0) (sym map.0));
-  drawn = drawn;
-}
-descent-plain below (tree ∷ above) last plain words left block was becomes shown map none read made small put drawn is =
-    absurd (omega (arith, none))
 
 -- the number that a word is
 pub number_of : (raw value : ℤ) (n : ℕ) → raw ≡ value → value ≡ pos n → pos (nat_abs raw) ≡ value

@@ -1,9 +1,9 @@
 -- What an access shows and leaves, tree by tree.
-use Rattle.std.proofs.Common.{◌≡◌, ℕ, zero, suc, ◌+◌, ◌-◌, ◌<◌, ◌≤◌, List, [], ◌∷◌, ◌++◌, length, replicate, get_or, set, refl, sym, ap, ap₂, ◌∙◌, arith, append_assoc, length-append}
+use Rattle.std.proofs.Common.{◌≡◌, ℕ, suc, ◌+◌, ◌-◌, ◌<◌, List, [], ◌∷◌, ◌++◌, length, replicate, get_or, set, refl, sym, ap, ap₂, ◌∙◌, arith, append_assoc, length-append}
 use Rattle.std.proofs.lemmas.List.{length-map}
 use Rattle.rand_core.specs.Stream.{Stream}
 use Rattle.banks.specs.declared.bank.Leaves.{Leaves}
-use Rattle.banks.specs.Banks.{AreLeaves, listed_leaves}
+use Rattle.banks.specs.Banks.{listed_leaves}
 use Rattle.path_oram.specs.Trees.{BlockTree}
 use Rattle.path_oram.specs.Words.{leaf_of, word_at, words_left}
 use Rattle.recursive_oram.specs.Levels.{Level, block_above, leaves_now, tree_level, levels_after, shown_ahead}
@@ -40,20 +40,6 @@ with-listed shown result leaf room len at leaves is =
     at ∙ (ap (λ l. set l.at l.len leaf) is ∙ listed-more leaves leaf few) in
     ap₂ (λ n l. let made : Leaves = record { len = n; at = l } in made) longer all
 
-zeros : (m i : ℕ) → get_or {A = ℕ} (replicate m 0) i 0 ≡ 0
-zeros zero i = refl
-zeros (suc m) zero = refl
-zeros (suc m) (suc i) = zeros m i
-
-behind : (leaves : List ℕ) (m i : ℕ) → length leaves ≤ i → get_or {A = ℕ} (leaves ++ replicate m 0) i 0 ≡ 0
-behind [] m i past = zeros m i
-behind (x ∷ leaves) m zero past = absurd (omega (arith, past))
-behind (x ∷ leaves) m (suc i) past = behind leaves m i (omega (arith, past))
-
--- at most six leaves are listed
-pub are-listed : (leaves : List ℕ) → length leaves ≤ 6 → AreLeaves (listed_leaves leaves)
-are-listed leaves few = record { most = few; rest = λ i past. behind leaves (6 - length leaves) i past }
-
 -- a leaf a level
 pub leaves_now-count : (levels : List Level) (block : ℕ) → length (leaves_now levels block) ≡ length levels
 leaves_now-count [] block = refl
@@ -74,15 +60,6 @@ led-levels (before ∷ above) block words (after ∷ others) led =
     (led.0.leaves ∙ ap (λ k. set before.places.leaves block (leaf_of before.places.height (word_at words k)))
     (sym count)))
     (led-levels above (block_above block) words others led.1)
-
--- the trees afterwards are as many
-pub led-count : (before : List BlockTree) (block : ℕ) (words : Stream) (after : List BlockTree)
-    → LeadsEach before block words after → length after ≡ length before
-led-count [] block words [] led = refl
-led-count [] block words (after ∷ others) led = absurd led
-led-count (before ∷ above) block words [] led = absurd led
-led-count (before ∷ above) block words (after ∷ others) led =
-    ap suc (led-count above (block_above block) words others led.1)
 
 -- what an access shows, and then what the bank will show
 pub shown-step : (before after : List BlockTree) (s t : Stream) (block : ℕ) (shown : Leaves) (later : List ℕ)

@@ -4,6 +4,5 @@ pub mod ComingDown
 pub mod Counted
 pub mod Made
 pub mod Read
-pub mod WorkedCase
 pub mod Quarters
 pub mod ByLevel

@@ -17,7 +17,7 @@ use Rattle.run_data.specs.declared.errors.InputError.{InputError}
 use Rattle.run_data.specs.declared.errors.InputError.TheVariants.{WrongShape, WrongLength}
 use Rattle.run_data.specs.InputsOf.{has_length, list_fault, listed_values, value_fault, named_fault, or_else, first_input_fault, words_listed, words_given}
 
-or_else-none : (first second : Option InputError) → or_else first second ≡ None → (first ≡ None) × (second ≡ None)
+pub or_else-none : (first second : Option InputError) → or_else first second ≡ None → (first ≡ None) × (second ≡ None)
 or_else-none None second is = (refl, is)
 or_else-none (Some fault) second is = absurd (let f : ◌≡◌ {A = Option InputError} (Some fault) None = is in cc)
 

@@ -17,7 +17,7 @@ use Rattle.run_data.specs.declared.errors.InputError.{InputError}
 use Rattle.run_data.specs.declared.errors.InputError.TheVariants.{NotAnObject, WrongShape}
 use Rattle.run_data.specs.declared.members.Given.{Given}
 use Rattle.run_data.specs.InputsOf.{is_word, listed_values, list_fault, value_fault, named_fault, or_else, first_input_fault, words_listed, words_given, unless_fault, inputs_in, inputs_of}
-use Rattle.run_data.specs.Given.{GivenValue, given_of, given_view, given_members, entries_view, given_values, given_list_fault, given_value_fault, given_named_fault, first_given_fault, find_given, given_words}
+use Rattle.run_data.specs.Given.{GivenValue, given_of, given_view, given_members, least_given, entries_view, given_values, given_list_fault, given_value_fault, given_named_fault, first_given_fault, find_given, given_words}
 
 -- the words of a list of values, and whether all of them are words
 abbrev summed : List Data → List ℤ × Bool
@@ -107,7 +107,7 @@ all_words_kept members (want ∷ wants) = ap₂ (λ w ws. w ∷ ws) (words_kept 
 
 -- ---- the map of what is kept
 
-abbrev put_given : List ℕ → GivenValue → List (List ℕ × GivenValue) → List (List ℕ × GivenValue)
+abbrev pub put_given : List ℕ → GivenValue → List (List ℕ × GivenValue) → List (List ℕ × GivenValue)
 put_given name value [] = (name, value) ∷ []
 put_given name value (m ∷ members) =
     match_ordering (slice_cmp nat_cmp name m.0) ((name, value) ∷ m ∷ members) ((m.0, value) ∷ members)
@@ -120,7 +120,7 @@ members-match Less a b c = refl
 members-match Equal a b c = refl
 members-match Greater a b c = refl
 
-put_kept : (name : List ℕ) (value : Data) (members : Members)
+pub put_kept : (name : List ℕ) (value : Data) (members : Members)
     → given_members (put name value members) ≡ put_given name (given_of value) (given_members members)
 put_kept name value no_members = refl
 put_kept name value (member l e members) =
@@ -132,19 +132,12 @@ entries-match Less a b c = refl
 entries-match Equal a b c = refl
 entries-match Greater a b c = refl
 
-insert_kept : (entries : List (String Global × Given)) (key : String Global) (value : Given)
+pub insert_kept : (entries : List (String Global × Given)) (key : String Global) (value : Given)
     → entries_view (insert_entry string_cmp entries key value)
     ≡ put_given (string_bytes key) (given_view value) (entries_view entries)
 insert_kept [] key value = refl
 insert_kept (e ∷ entries) key value =
     entries-match (string_cmp key e.0) _ _ _ ∙ rw (insert_kept entries key value) refl
-
-pub put_seen : (members : Members) (entries : List (String Global × Given)) (key : String Global) (value : Data)
-    (given : Given) → given_members members ≡ entries_view entries → given_of value ≡ given_view given
-    → given_members (put (string_bytes key) value members) ≡ entries_view (insert_entry string_cmp entries key given)
-put_seen members entries key value given same is =
-    put_kept (string_bytes key) value members ∙ ap₂ (put_given (string_bytes key)) is same
-    ∙ sym (insert_kept entries key given)
 
 looked_by : (o : Ordering) (value : Given) (rest : Option Given) (more : Option GivenValue)
     → option_map given_view rest ≡ more
@@ -169,34 +162,21 @@ given_at name entries r found looked is =
 
 -- ---- the inputs
 
-object_in : (o found : Option Members) (members : List (List ℕ × GivenValue))
-    → o ≡ found → option_map given_members found ≡ Some members
-    → (ms : Members) × (o ≡ Some ms) × (given_members ms ≡ members)
-object_in o None members at is =
+object_in : (most : ℕ) (o found : Option Members) (members : List (List ℕ × GivenValue))
+    → o ≡ found → option_map (least_given most) found ≡ Some members
+    → (ms : Members) × (o ≡ Some ms) × (least_given most ms ≡ members)
+object_in most o None members at is =
     absurd (let f : ◌≡◌ {A = Option (List (List ℕ × GivenValue))} None (Some members) = is in cc)
-object_in o (Some ms) members at is = (ms, at, cc)
+object_in most o (Some ms) members at is = (ms, at, cc)
 
-pub object_kept : (value : Data) (members : List (List ℕ × GivenValue))
-    → option_map given_members (as_object value) ≡ Some members
-    → (ms : Members) × (as_object value ≡ Some ms) × (given_members ms ≡ members)
-object_kept value members is = object_in (as_object value) (as_object value) members refl is
-
-no_members_in : (found : Option Members) → option_map given_members found ≡ None → found ≡ None
-no_members_in None is = refl
-no_members_in (Some ms) is =
-    absurd (let f : ◌≡◌ {A = Option (List (List ℕ × GivenValue))} (Some (given_members ms)) None = is in cc)
-
-pub no_object : (value : Data) → option_map given_members (as_object value) ≡ None → as_object value ≡ None
-no_object value is = no_members_in (as_object value) is
+pub object_kept : (most : ℕ) (value : Data) (members : List (List ℕ × GivenValue))
+    → option_map (least_given most) (as_object value) ≡ Some members
+    → (ms : Members) × (as_object value ≡ Some ms) × (least_given most ms ≡ members)
+object_kept most value members is = object_in most (as_object value) (as_object value) members refl is
 
 pub inputs_at : (wants : List Want) (value : Data) (ms : Members) → as_object value ≡ Some ms
     → inputs_of wants (Some value) ≡ inputs_in wants ms
 inputs_at wants value ms is = ap (λ o. option_map_or (inputs_in wants) o (Err NotAnObject)) is
-
-pub no_object_at : (wants : List Want) (value : Data) → option_map given_members (as_object value) ≡ None
-    → inputs_of wants (Some value) ≡ Err NotAnObject
-no_object_at wants value is =
-    ap (λ o. option_map_or (inputs_in wants) o (Err NotAnObject)) (no_object value is)
 
 -- an object whose first fault is known gives that fault
 pub faulty_inputs : (wants : List Want) (ms : Members) (fault : InputError)

@@ -17,6 +17,7 @@ pub mod TraceSteps
 pub mod TraceUnique
 pub mod TraceWhole
 pub mod PathTexts
+pub mod LeastMembers
 pub mod MemberOrder
 pub mod FaultOrder
 pub mod ReadWords

@@ -1,5 +1,5 @@
 -- For proofs and private clauses: what a JSON value gives a variable, the word of a number and the words of a list.
-use Rattle.std.specs.Prelude.{ℕ, Bool, if◌then◌else◌, not, bytes_eq, ℤ, pos, List, [], ◌∷◌, length, map, replicate, Option, Some, None, option_and_then, unwrap_or, is_some, String, string_bytes}
+use Rattle.std.specs.Prelude.{ℕ, Bool, if◌then◌else◌, not, bytes_eq, ℤ, pos, List, [], ◌∷◌, length, map, take, replicate, Option, Some, None, option_and_then, unwrap_or, is_some, String, string_bytes}
 use Rattle.std.specs.List.{list_all}
 use Rattle.std.specs.Option.{option_map_or}
 use Rattle.std.specs.Ordering.{nat_cmp, match_ordering}
@@ -38,6 +38,10 @@ given_view given.Other = another
 abbrev pub given_members : Members → List (List ℕ × GivenValue)
 given_members no_members = []
 given_members (member name value members) = (name, given_of value) ∷ given_members members
+
+-- the first members of an object, in the byte order of their names
+abbrev pub least_given : ℕ → Members → List (List ℕ × GivenValue)
+least_given most members = take most (given_members members)
 
 abbrev pub entries_view : List (String Global × Given) → List (List ℕ × GivenValue)
 entries_view entries = map (λ e. (string_bytes e.0, given_view e.1)) entries

@@ -1,4 +1,5 @@
 ghost use Rattle.std.specs.Prelude.{◌≡◌, ◌≢◌, ◌≤◌, [], ◌∷◌, All, IfOk, IfErr, OnOk, None, Some, Ok, Err, length, map, replicate, unwrap_or, pos};
+ghost use Rattle.std.specs.BTreeMap.{btree_map_len};
 ghost use Rattle.std.specs.Option.{option_map_or};
 ghost use Rattle.gr_word.specs.Fitting.{AreDistinct, AreVariables, AreWords, FitsWants};
 ghost use Rattle.gr_word.specs.Words.{IsWord};
@@ -33,7 +34,7 @@ pub fn read_inputs(alloc: Global, wants: &[Want], json: &[u8]) -> Result<Inputs,
     ensures first { IfErr result (λ e. e ≢ InputError.Memory → inputs_of wants.now (json_of json.now) ≡ Err e) }
     ensures fits { IfOk result (λ inputs. AreVariables wants.now → FitsWants wants.now inputs) }
 {
-    let found = match read_text(alloc, json) {
+    let found = match read_text(alloc, json, wants.len() + 1) {
         Ok(found) => found,
         Err(Unread::Invalid) => return Err(InputError::BadJson),
         Err(Unread::Memory) => return Err(InputError::Memory),
@@ -47,7 +48,8 @@ pub fn read_inputs(alloc: Global, wants: &[Want], json: &[u8]) -> Result<Inputs,
 /// The inputs that the members give, or their first fault.
 fn inputs_from(alloc: Global, wants: &[Want], members: &GivenMembers) -> Result<Inputs, InputError>
     ensures given { IfOk result (λ inputs. (first_given_fault wants.now (entries_view members.now.entries) ≡ None)
-        × (inputs ≡ map (given_words (entries_view members.now.entries)) wants.now) × All AreWords inputs) }
+        × (inputs ≡ map (given_words (entries_view members.now.entries)) wants.now) × All AreWords inputs
+        × (btree_map_len members.now ≤ length wants.now)) }
     ensures first { IfErr result (λ e. e ≢ InputError.Memory
         → first_given_fault wants.now (entries_view members.now.entries) ≡ Some e) }
 {
@@ -58,6 +60,7 @@ fn inputs_from(alloc: Global, wants: &[Want], members: &GivenMembers) -> Result<
 /// Whether all members give their variables words; else the first fault.
 fn check_members(alloc: Global, wants: &[Want], members: &GivenMembers) -> Result<(), InputError>
     ensures none { OnOk result (first_given_fault wants.now (entries_view members.now.entries) ≡ None) }
+    ensures few { OnOk result (btree_map_len members.now ≤ length wants.now) }
     ensures first { IfErr result (λ e. e ≢ InputError.Memory
         → first_given_fault wants.now (entries_view members.now.entries) ≡ Some e) }
 {

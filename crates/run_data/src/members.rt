@@ -1,13 +1,15 @@
-//! The members of a JSON object, read in one pass over its text. Only what a variable may take is kept of a value.
+//! The members of a JSON object, read in one pass over its text. Only what a variable may take is kept of a value, and
+//! only the members with the least names: among more names than variables, one names no variable.
 
-ghost use Rattle.std.specs.Prelude.{◌≡◌, ◌<◌, length, Some, None, Err, IfOk, OnOk, option_map};
+ghost use Rattle.std.specs.Prelude.{◌≡◌, ◌<◌, ◌≤◌, length, take, Some, None, Err, IfOk, OnOk, option_map, string_cmp};
+ghost use Rattle.std.specs.BTreeMap.{btree_map_len, insert_entry};
 ghost use Rattle.std.specs.List.{list_all};
 ghost use Rattle.json.specs.Json.{value, items, members};
 ghost use Rattle.serde_json.specs.Data.{Data, Items, Members, no_members};
 ghost use Rattle.serde_json.specs.Find.{as_object};
 ghost use Rattle.serde_json.specs.Read.{of_json, of_items, of_members, converted, read};
 ghost use Rattle.run_data.specs.InputsOf.{json_of, list_of, is_word, words_listed};
-ghost use Rattle.run_data.specs.Given.{given_of, given_view, given_members, entries_view};
+ghost use Rattle.run_data.specs.Given.{given_of, given_view, least_given, entries_view};
 
 use crate::json_numbers::number_given;
 use crate::passing::{pass_items, pass_members, pass_value};
@@ -79,37 +81,46 @@ impl<T: Drop> From<AllocFailed<T>> for Unread {
     }
 }
 
-/// What the members of the object give that a text is; `None` if the text is another value.
-pub(crate) fn read_text(alloc: Global, text: &[u8]) -> Result<Option<GivenMembers>, Unread>
+/// What the members of the object give that a text is, at most `most` of them: those whose names are least. `None` if
+/// the text is another value.
+pub(crate) fn read_text(
+    alloc: Global,
+    text: &[u8],
+    most: usize,
+) -> Result<Option<GivenMembers>, Unread>
     ensures given { IfOk result (λ found. (d : Data) × (json_of text.now ≡ Some d)
-        × (option_map given_members (as_object d) ≡ option_map (λ m. entries_view m.entries) found)) }
+        × (option_map (least_given most) (as_object d) ≡ option_map (λ m. entries_view m.entries) found)) }
     ensures none { result ≡ Err Unread.Invalid → json_of text.now ≡ None }
 {
     match str::from_utf8(text) {
-        Ok(text) => read_whole(alloc, text),
+        Ok(text) => read_whole(alloc, text, most),
         Err(_) => Err(Unread::Invalid),
     }
 }
 
-fn read_whole(alloc: Global, text: &str) -> Result<Option<GivenMembers>, Unread>
+fn read_whole(alloc: Global, text: &str, most: usize) -> Result<Option<GivenMembers>, Unread>
     ensures given { IfOk result (λ found. (d : Data) × (read text.now ≡ Some d)
-        × (option_map given_members (as_object d) ≡ option_map (λ m. entries_view m.entries) found)) }
+        × (option_map (least_given most) (as_object d) ≡ option_map (λ m. entries_view m.entries) found)) }
     ensures none { result ≡ Err Unread.Invalid → read text.now ≡ None }
 {
     let mut scratch = Scratch::new(alloc);
     let mut reader = Reader::new(text, &mut scratch)?;
-    let found = read_object(alloc, &mut reader)?;
+    let found = read_object(alloc, &mut reader, most)?;
     match reader.next() {
         Some(_) => Err(Unread::Invalid),
         None => Ok(found),
     }
 }
 
-/// What the members of the next value of a reader give; `None` if it isn't an object.
-fn read_object(alloc: Global, reader: &mut Reader<'_>) -> Result<Option<GivenMembers>, Unread>
+/// What the first `most` members of the next value of a reader give, by name; `None` if it isn't an object.
+fn read_object(
+    alloc: Global,
+    reader: &mut Reader<'_>,
+    most: usize,
+) -> Result<Option<GivenMembers>, Unread>
     ensures given { IfOk result (λ found. (d : Data)
         × (converted of_json (value MAX_DEPTH reader.old) ≡ Some (d, reader.new))
-        × (option_map given_members (as_object d) ≡ option_map (λ m. entries_view m.entries) found)) }
+        × (option_map (least_given most) (as_object d) ≡ option_map (λ m. entries_view m.entries) found)) }
     ensures none { result ≡ Err Unread.Invalid → converted of_json (value MAX_DEPTH reader.old) ≡ None }
 {
     let token = reader.next().ok_or(Unread::Invalid)?;
@@ -124,19 +135,20 @@ fn read_object(alloc: Global, reader: &mut Reader<'_>) -> Result<Option<GivenMem
             pass_items(reader, MAX_DEPTH - 1)?;
             Ok(None)
         }
-        Token::BeginObject => Ok(Some(read_members(alloc, reader, MAX_DEPTH - 1)?)),
+        Token::BeginObject => Ok(Some(read_members(alloc, reader, MAX_DEPTH - 1, most)?)),
     }
 }
 
-/// What the members of an object give: of a repeated name the last.
+/// What the first `most` members of an object give, by name: of a repeated name the last.
 fn read_members(
     alloc: Global,
     reader: &mut Reader<'_>,
     depth: usize,
+    most: usize,
 ) -> Result<GivenMembers, Unread>
     ensures given { IfOk result (λ m. (ms : Members)
         × (converted (λ js. of_members js no_members) (members (value depth) (length reader.old) reader.old)
-        ≡ Some (ms, reader.new)) × (given_members ms ≡ entries_view m.entries)) }
+        ≡ Some (ms, reader.new)) × (least_given most ms ≡ entries_view m.entries)) }
     ensures none { result ≡ Err Unread.Invalid
         → converted (λ js. of_members js no_members) (members (value depth) (length reader.old) reader.old)
         ≡ None }
@@ -145,9 +157,27 @@ fn read_members(
     'members: while let Some(name) = reader.next_key()? {
         let key = String::from_str(alloc, name)?;
         let given = read_given(alloc, reader, depth)?;
-        drop(found.insert(key, given)?);
+        keep(&mut found, most, key, given)?;
     }
     Ok(found)
+}
+
+/// Inserts a member, and drops the one with the greatest name if there are more than `most`.
+fn keep(
+    found: &mut GivenMembers,
+    most: usize,
+    key: String,
+    given: Given,
+) -> Result<(), AllocFailed<(String, Given)>>
+    requires few { btree_map_len found.old ≤ most }
+    ensures kept { OnOk result
+        (found.new.entries ≡ take most (insert_entry string_cmp found.old.entries key given)) }
+{
+    drop(found.insert(key, given)?);
+    if found.len() > most {
+        drop(found.pop_last());
+    }
+    Ok(())
 }
 
 /// What the next value of a reader gives.

@@ -70,10 +70,6 @@ abbrev Spares : ℕ → List ℕ → Type 0
 Spares low [] = Unit {0}
 Spares low (slot ∷ slots) = (low ≤ slot) × (slot < 8) × (slot ≢ 6) × Spares (slot + 1) slots
 
-spares-lower : (low more : ℕ) (slots : List ℕ) → low ≤ more → Spares more slots → Spares low slots
-spares-lower low more [] less h = h
-spares-lower low more (slot ∷ slots) less h = (omega (arith, less, h.0), h.1, h.2, h.3)
-
 free-lower : (plan : Plan) (k low more : ℕ) (slots : List ℕ) → low ≤ more
     → FreeFrom plan k more slots → FreeFrom plan k low slots
 free-lower plan k low more [] less h = h

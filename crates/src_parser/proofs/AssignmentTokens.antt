@@ -1,5 +1,5 @@
 -- An assignment that is read in one go is read as its tokens are, one by one.
-use Rattle.std.proofs.Common.{◌≡◌, ℕ, ◌+◌, ◌-◌, ◌<◌, ◌≤◌, suc, List, [], ◌∷◌, ◌++◌, length, take, drop, get_or, sym, ap, ◌∙◌, subst, append_assoc, arith}
+use Rattle.std.proofs.Common.{◌≡◌, ℕ, ◌+◌, ◌-◌, ◌≤◌, suc, List, [], ◌∷◌, ◌++◌, length, take, drop, get_or, sym, ap, ◌∙◌, subst, append_assoc, arith}
 use Rattle.std.proofs.Math.Seq.{take-add}
 use Rattle.std.proofs.lemmas.List.{length-append, length-map, length-take-le, map-append, take_all}
 use Rattle.src_lexer.specs.declared.tokens.Token.{Token}
@@ -9,24 +9,12 @@ use Rattle.src_tree.specs.declared.trees.Decl.{Decl}
 use Rattle.src_tree.specs.Trees.{Tree, Statement, SetVariable, SetElement}
 use Rattle.src_parser.specs.Grammar.{limits, operators, SpellsTree, Numeral, Named, Indexed, Bracketed, Negated, Joined}
 use Rattle.src_parser.specs.Refusals.{token_kinds}
-use Rattle.src_parser.specs.Expressions.{FoundExpression}
 use Rattle.src_parser.specs.Parts.{PartState, in_expression}
 use Rattle.src_parser.specs.Statements.{Outer, Among, Ready, with_part}
 use Rattle.src_parser.specs.Tokenwise.{Advance, mapped, then_advance, advances}
 use Rattle.src_parser.specs.Advances.{ParserState, Doing, programs, advanced}
 use Rattle.src_parser.specs.Assignments.{EndedBy, Adds}
-use Rattle.src_parser.proofs.TokenPlaces.{kinds_more}
 use Rattle.src_parser.proofs.PartRead.{PartRuns, variable_read, element_read}
-
--- an expression and the token after it
-pub ended_at : (tokens : List Token) (opened used count : ℕ) (tree : Tree) (token : Token) (last : TokenKind)
-    → FoundExpression tokens opened used tree count → count < length tokens → token ≡ get_or tokens count token
-    → token.kind ≡ last → EndedBy last opened used (token_kinds (take (count + 1) tokens)) tree
-ended_at tokens opened used count tree token last found h is ends = record {
-  front = token_kinds (take count tokens);
-  split = kinds_more tokens count token h is ∙ ap (λ k. token_kinds (take count tokens) ++ k ∷ []) ends;
-  is = found.is;
-}
 
 -- an expression has no more operators than tokens
 few_operators : {most depth level : ℕ} {tokens : List TokenKind} {tree : Tree} → SpellsTree most depth level tokens tree

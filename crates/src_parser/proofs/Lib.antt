@@ -23,7 +23,6 @@ pub mod Refused
 pub mod Places
 pub mod ReadTokens
 pub mod ExpressionPlaces
-pub mod ExpressionTokens
 pub mod TokenPlaces
 pub mod Tokenwise
 pub mod SeveralTokens

@@ -6,7 +6,7 @@ use Rattle.src_lexer.specs.declared.errors.LexError.{LexError}
 use Rattle.src_lexer.specs.declared.errors.LexError.TheVariants as piece
 use Rattle.src_lexer.specs.Splits.{Splits}
 use Rattle.src_lexer.specs.Unread.{Unread, BeginsWith}
-use Rattle.src_lexer.proofs.Unread.{begins_with_none, begins_with_both, all_of_them, fault_after, tokens_before}
+use Rattle.src_lexer.proofs.Unread.{begins_with_both, all_of_them, fault_after, tokens_before}
 use Rattle.src_parser.specs.Readers.{ErrsFirst}
 use Rattle.src_parser.specs.Source.{HasTokens, ExplainsTextBy}
 use Rattle.src_parser.specs.declared.errors.ParseError.{ParseError}
@@ -26,9 +26,6 @@ pub record Past (Is : List Token → Type 0) (before after : Unread) : Type 0 wh
 -- tokens of which nothing is asked
 abbrev pub Any : List Token → Type 0
 Any tokens = Unit {0}
-
-pub past_none : (Is : List Token → Type 0) (left : Unread) → Is [] → Past Is left left
-past_none Is left is = record { tokens = []; begins = begins_with_none left; is = is }
 
 -- the tokens of one step more, which are passed on as a slice
 pub past_more : {Is Next : List Token → Type 0} {before middle after : Unread} (more slice : List Token) → slice ≡ more

@@ -1,5 +1,5 @@
 -- Runs through code: two parts in sequence, and the instructions that set a register.
-use Rattle.std.proofs.Common.{◌≡◌, ℕ, ◌+◌, ◌<◌, ◌≤◌, false, ℤ, pos, List, [], ◌∷◌, ◌++◌, length, Some, refl, sym, ap, ◌∙◌, subst, arith}
+use Rattle.std.proofs.Common.{◌≡◌, ℕ, ◌+◌, ◌<◌, false, ℤ, pos, List, [], ◌∷◌, ◌++◌, length, Some, refl, sym, ap, subst, arith}
 use Rattle.std.specs.Prelude.{slice_get}
 use Rattle.std.proofs.lemmas.List.{get_or-set_same, get_or-set_other, length-append}
 use Rattle.gr_word.specs.Words.{applied}
@@ -13,7 +13,7 @@ use Rattle.lt_isa.specs.Costs.{greatest_cost}
 use Rattle.lt_isa.specs.Step.{passed, word_named}
 use Rattle.lt_isa.specs.Shape.{IsShaped}
 use Rattle.stretches.specs.Standing.{StandsAt, greatest_costs}
-use Rattle.stretches.specs.Coming.{Comes, RunsThrough, Sets, Keeps}
+use Rattle.stretches.specs.Coming.{Comes, RunsThrough, Sets}
 use Rattle.stretches.proofs.Standing.{standing-first, standing-rest, standing-head, standing-tail, greatest_costs-append}
 use Rattle.stretches.proofs.Coming.{comes-on, comes-weaker, comes-li, comes-alu, comes-idb, comes-ldw}
 
@@ -70,22 +70,6 @@ sets-register o s i r word shaped below = record {
   others = λ q other. get_or-set_other s.registers r q word (pos 0) other;
   slots = refl;
   banks = refl;
-}
-
--- setting a register from n on keeps the registers below n
-pub keeps-set : (n : ℕ) {s t : State} {r : ℕ} {word : ℤ} → Sets s r word t → n ≤ r → Keeps n s t
-keeps-set n {r = r} sets from = record {
-  below = λ q under. sets.others q (λ same. absurd (omega arith));
-  slots = sets.slots;
-  banks = sets.banks;
-}
-
--- two changes in sequence that keep the registers below n
-pub keeps-on : {n : ℕ} {s t u : State} → Keeps n s t → Keeps n t u → Keeps n s u
-keeps-on first second = record {
-  below = λ q under. second.below q under ∙ first.below q under;
-  slots = second.slots ∙ first.slots;
-  banks = second.banks ∙ first.banks;
 }
 
 module _ (o : Parts) (fits : IsInRange o) (s : State) (shaped : IsShaped o s) where

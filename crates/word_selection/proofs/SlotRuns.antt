@@ -3,6 +3,7 @@ use Rattle.std.proofs.Common.{◌≡◌, ℕ, ◌+◌, ◌<◌, ◌≤◌, ℤ, 
 use Rattle.std.specs.Prelude.{slice_get, slice_set, Some}
 use Rattle.std.specs.List.{AllByRecursion}
 use Rattle.gr_word.specs.Words.{applied}
+use Rattle.lt_isa.specs.declared.instructions.Instr.{Instr}
 use Rattle.lt_isa.specs.declared.instructions.Instr.TheVariants.{Li, Alu, Ldw, Stw}
 use Rattle.lt_isa.specs.Object.{Parts, block_words}
 use Rattle.lt_isa.specs.Ranges.{IsInRange}
@@ -15,7 +16,7 @@ use Rattle.stretches.specs.Standing.{StandsAt}
 use Rattle.stretches.specs.Coming.{Comes, RunsThrough, Sets}
 use Rattle.stretches.proofs.Coming.{comes-stw}
 use Rattle.stretches.proofs.RunningThrough.{runs-cons, runs-weaker, sets-li, sets-alu, sets-ldw}
-use Rattle.strength_reduction.specs.Steps.{numbered}
+use Rattle.strength_reduction.specs.Steps.{numbered, replaced}
 use Rattle.word_selection.specs.Selected.{IsBound}
 use Rattle.word_selection.specs.SlotSteps.{SlotStep, Constant, Compute, Combine, IsOutside, Read, Write, StepFits, Contents, after_step, after, code_of, word_of, with_word_at, with_word, slot_at}
 use Rattle.word_selection.proofs.Registers.{numbered-low, outside-other, set-own}
@@ -78,6 +79,32 @@ module _ (o : Parts) (fits : IsInRange o) (base most : ℕ) (room : base + most 
         banks = refl;
       })
 
+  -- a register is set, and then the rest runs
+  sets-then : (step : Instr) (code : List Instr) (to : ℕ) (word : ℤ) (c last : Contents) (s : State) → to ≤ most
+      → ((i : ℕ) → i ≤ most → register s (numbered base i) ≡ c.registers i)
+      → ((r : ℕ) → IsOutside base most r → register s r ≡ c.outside r)
+      → s.slots ≡ c.slots
+      → StandsAt o s.place (step ∷ code)
+      → (slice_get o.code s.place ≡ Some step
+      → Comes o s [] (s.place + 1) (greatest_cost o step) (Sets s (numbered base to) word))
+      → ((t : State) → IsShaped o t
+      → ((i : ℕ) → i ≤ most → register t (numbered base i) ≡ replaced c.registers to word i)
+      → ((r : ℕ) → IsOutside base most r → register t r ≡ c.outside r)
+      → t.slots ≡ c.slots
+      → StandsAt o t.place code
+      → RunsThrough o t code [] (Leaves base most last t))
+      → RunsThrough o s (step ∷ code) [] (Leaves base most last s)
+  sets-then step code to word c last s low held others slots at first rest =
+      runs-cons s step code [] [] (Sets s (numbered base to) word) (Leaves base most last s) at first
+      (λ t shape sets at'.
+      runs-weaker t code [] [] (Leaves base most last t) (Leaves base most last s)
+      (rest t shape
+      (set-own base most to word (register s) (register t) c.registers sets.value sets.others held)
+      (λ r apart. sets.others r (outside-other base most to r low apart) ∙ others r apart)
+      (sets.slots ∙ slots) at')
+      refl
+      (λ u shape' done. leaves-on to word low sets done))
+
   pub runs-steps : (steps : List SlotStep) (c : Contents) (s : State)
       → AllByRecursion (StepFits base most Used) steps
       → IsShaped o s
@@ -98,61 +125,37 @@ module _ (o : Parts) (fits : IsInRange o) (base most : ℕ) (room : base + most 
     holds = record { own = held; outside = λ r apart. refl; slots = slots; banks = refl };
   }
   runs-steps (Constant to value ∷ steps) c s low shaped held others slots bound at =
-      let rd = numbered base to in
       let next = after_step (block_words o) (Constant to value) c in
-      let Done : State → Type 0 = Leaves base most (after (block_words o) steps next) s in
-      runs-cons s (Li rd value) (code_of base steps) [] [] (Sets s rd value) Done at
-      (sets-li o fits s shaped rd value (numbered-low base most to low.0 room))
-      (λ t shape sets at'.
-      runs-weaker t (code_of base steps) [] [] (Leaves base most (after (block_words o) steps next) t) Done
-      (runs-steps steps next t low.1 shape
-      (set-own base most to value (register s) (register t) c.registers sets.value sets.others held)
-      (λ r apart. sets.others r (outside-other base most to r low.0 apart) ∙ others r apart)
-      (sets.slots ∙ slots) bound at')
-      refl
-      (λ u shape' rest. leaves-on to value low.0 sets rest))
+      sets-then (Li (numbered base to) value) (code_of base steps) to value c (after (block_words o) steps next) s low.0
+      held others slots at
+      (sets-li o fits s shaped (numbered base to) value (numbered-low base most to low.0 room))
+      (λ t shape own apart same at'. runs-steps steps next t low.1 shape own apart same bound at')
   runs-steps (Compute op to left right ∷ steps) c s low shaped held others slots bound at =
       let first = low.0 in
       let rd = numbered base to in
       let word = applied op (c.registers left) (c.registers right) in
       let next = after_step (block_words o) (Compute op to left right) c in
-      let Done : State → Type 0 = Leaves base most (after (block_words o) steps next) s in
       let is : applied op (register s (numbered base left)) (register s (numbered base right)) ≡ word =
       ap (λ w. applied op w (register s (numbered base right))) (held left first.1)
       ∙ ap (applied op (c.registers left)) (held right first.2) in
-      runs-cons s (Alu op rd (numbered base left) (numbered base right)) (code_of base steps) [] [] (Sets s rd word)
-      Done at
+      sets-then (Alu op rd (numbered base left) (numbered base right)) (code_of base steps) to word c
+      (after (block_words o) steps next) s first.0 held others slots at
       (sets-alu o fits s shaped op rd (numbered base left) (numbered base right) word
       (numbered-low base most to first.0 room) is)
-      (λ t shape sets at'.
-      runs-weaker t (code_of base steps) [] [] (Leaves base most (after (block_words o) steps next) t) Done
-      (runs-steps steps next t low.1 shape
-      (set-own base most to word (register s) (register t) c.registers sets.value sets.others held)
-      (λ r apart. sets.others r (outside-other base most to r first.0 apart) ∙ others r apart)
-      (sets.slots ∙ slots) bound at')
-      refl
-      (λ u shape' rest. leaves-on to word first.0 sets rest))
+      (λ t shape own apart same at'. runs-steps steps next t low.1 shape own apart same bound at')
   runs-steps (Combine op to left outside ∷ steps) c s low shaped held others slots bound at =
       let first = low.0 in
       let rd = numbered base to in
       let word = applied op (c.registers left) (c.outside outside) in
       let next = after_step (block_words o) (Combine op to left outside) c in
-      let Done : State → Type 0 = Leaves base most (after (block_words o) steps next) s in
       let is : applied op (register s (numbered base left)) (register s outside) ≡ word =
       ap (λ w. applied op w (register s outside)) (held left first.1)
       ∙ ap (applied op (c.registers left)) (others outside first.2) in
-      runs-cons s (Alu op rd (numbered base left) outside) (code_of base steps) [] [] (Sets s rd word)
-      Done at
+      sets-then (Alu op rd (numbered base left) outside) (code_of base steps) to word c
+      (after (block_words o) steps next) s first.0 held others slots at
       (sets-alu o fits s shaped op rd (numbered base left) outside word
       (numbered-low base most to first.0 room) is)
-      (λ t shape sets at'.
-      runs-weaker t (code_of base steps) [] [] (Leaves base most (after (block_words o) steps next) t) Done
-      (runs-steps steps next t low.1 shape
-      (set-own base most to word (register s) (register t) c.registers sets.value sets.others held)
-      (λ r apart. sets.others r (outside-other base most to r first.0 apart) ∙ others r apart)
-      (sets.slots ∙ slots) bound at')
-      refl
-      (λ u shape' rest. leaves-on to word first.0 sets rest))
+      (λ t shape own apart same at'. runs-steps steps next t low.1 shape own apart same bound at')
   runs-steps (Read to k from ∷ steps) c s low shaped held others slots bound at =
       let first = low.0 in
       let rd = numbered base to in
@@ -160,21 +163,14 @@ module _ (o : Parts) (fits : IsInRange o) (base most : ℕ) (room : base + most 
       let x = bound k first.2 in
       let word = word_of (block_words o) (slot_at c.slots k) (c.registers from) in
       let next = after_step (block_words o) (Read to k from) c in
-      let Done : State → Type 0 = Leaves base most (after (block_words o) steps next) s in
       let now : slot s k ≡ Bound x.bank x.block x.words = ap (λ l. slot_at l k) slots ∙ x.is in
       let is : word_in x.words (word_named o (register s ro)) ≡ word =
       ap (λ w. word_in x.words (word_named o w)) (held from first.1)
       ∙ ap (λ y. word_of (block_words o) y (c.registers from)) (sym x.is) in
-      runs-cons s (Ldw rd k ro) (code_of base steps) [] [] (Sets s rd word) Done at
+      sets-then (Ldw rd k ro) (code_of base steps) to word c (after (block_words o) steps next) s first.0 held others
+      slots at
       (sets-ldw o fits s shaped rd k ro x.bank x.block x.words word (numbered-low base most to first.0 room) now is)
-      (λ t shape sets at'.
-      runs-weaker t (code_of base steps) [] [] (Leaves base most (after (block_words o) steps next) t) Done
-      (runs-steps steps next t low.1 shape
-      (set-own base most to word (register s) (register t) c.registers sets.value sets.others held)
-      (λ r apart. sets.others r (outside-other base most to r first.0 apart) ∙ others r apart)
-      (sets.slots ∙ slots) bound at')
-      refl
-      (λ u shape' rest. leaves-on to word first.0 sets rest))
+      (λ t shape own apart same at'. runs-steps steps next t low.1 shape own apart same bound at')
   runs-steps (Write from k number ∷ steps) c s low shaped held others slots bound at =
       let first = low.0 in
       let rs = numbered base from in

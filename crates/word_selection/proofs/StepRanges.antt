@@ -1,15 +1,14 @@
 -- The instructions of the code are in the machine's ranges, and the code's length depends only on the number of blocks.
-use Rattle.std.proofs.Common.{◌≡◌, ℕ, suc, ◌+◌, ◌-◌, ◌*◌, ◌^◌, ◌<◌, ◌≤◌, Bool, false, not, pos, List, [], ◌∷◌, ◌++◌, length, ◌∙◌, subst, arith, length-append}
+use Rattle.std.proofs.Common.{◌≡◌, ℕ, suc, ◌+◌, ◌-◌, ◌*◌, ◌^◌, ◌<◌, ◌≤◌, Bool, false, not, pos, List, [], ◌∷◌, ◌++◌, length, subst, arith}
 use Rattle.std.specs.Prelude.{All, slice_get, Some}
 use Rattle.std.specs.List.{AllByRecursion}
-use Rattle.std.proofs.lemmas.List.{length-map}
 use Rattle.std.proofs.lemmas.List.Elements.{All-cons, All-nil}
 use Rattle.std.proofs.Math.Nat.{mul-le-mul_right}
 use Rattle.gr_word.specs.Words.{IsWord}
 use Rattle.lt_isa.specs.Ranges.{InstrFits}
 use Rattle.word_selection.specs.declared.effects.Effect.{Effect}
 use Rattle.word_selection.specs.SlotSteps.{SlotStep, Constant, Compute, Combine, Read, Write, IsOutside, StepFits, OperandFits, instruction_of, code_of}
-use Rattle.word_selection.specs.Selection.{mask_steps, choices_steps, read_steps, selected_read, mask_register, next_mask_steps, exchange_steps, exchanges_steps, write_steps, selected_write}
+use Rattle.word_selection.specs.Selection.{choices_steps, read_steps, selected_read, mask_register, next_mask_steps, exchange_steps, exchanges_steps, write_steps, selected_write}
 use Rattle.word_selection.proofs.Registers.{numbered-low}
 use Rattle.word_selection.proofs.ReadLaws.{read-fits}
 use Rattle.word_selection.proofs.WriteLaws.{write-fits}
@@ -25,9 +24,6 @@ words-append (x ∷ xs) ys first rest = (first.0, words-append xs ys first.1 res
 
 limit-word : (limit : ℕ) → limit < 2 ^ 63 → IsWord (pos (limit - 1))
 limit-word limit below = record { sfits = omega arith }
-
-mask-words : (limit mask : ℕ) → limit < 2 ^ 63 → Words (mask_steps limit mask)
-mask-words limit mask below = (limit-word limit below, (tt, (tt, tt)))
 
 module _ (size bound : ℕ) (small : bound < 2 ^ 63) where
   choices-words : (slots : List ℕ) (i : ℕ) → (i + length slots) * size ≤ bound → Words (choices_steps size i slots)
@@ -131,34 +127,3 @@ write-in_range banks size value effect slots to room low apart small few =
     (write-words size (length slots * size) small effect value low slots (omega arith))
 
 -- ---- lengths
-
-choices-length : (size i : ℕ) (slots : List ℕ) → length (choices_steps size i slots) ≡ 7 * length slots
-choices-length size i [] = omega arith
-choices-length size i (slot ∷ slots) = omega (arith, choices-length size (suc i) slots)
-
-pub read-length : (size : ℕ) (slot : ℕ) (slots : List ℕ) (to : ℕ)
-    → length (selected_read size (slot ∷ slots) to) ≡ 1 + 7 * length slots
-read-length size slot slots to =
-    length-map (read_steps size (slot ∷ slots)) (instruction_of to) ∙ (let rest = choices-length size 1 slots in omega (arith, rest))
-
-next-length : (size i : ℕ) (turn : Bool) (slots : List ℕ) → length (next_mask_steps size i turn slots) ≤ 4
-next-length size i turn [] = omega arith
-next-length size i turn (slot ∷ slots) = omega arith
-
-exchanges-length : (effect : Effect) (size value i : ℕ) (turn : Bool) (slots : List ℕ)
-    → length (exchanges_steps effect size value i turn slots) ≤ 9 * length slots
-exchanges-length effect size value i turn [] = omega arith
-exchanges-length effect size value i turn (slot ∷ slots) =
-    let rest = exchanges-length effect size value (suc i) (not turn) slots in
-    let next = next-length size i turn slots in
-    let all = length-append (next_mask_steps size i turn slots)
-    (exchange_steps effect value slot (mask_register turn)
-    ++ exchanges_steps effect size value (suc i) (not turn) slots) in
-    omega (arith, rest, next, all)
-
-pub write-length : (effect : Effect) (size value : ℕ) (slot : ℕ) (slots : List ℕ) (to : ℕ)
-    → length (selected_write effect size value (slot ∷ slots) to) ≤ 8 + 9 * length slots
-write-length effect size value slot slots to =
-    let rest = exchanges-length effect size value 1 false slots in
-    let all = length-map (write_steps effect size value (slot ∷ slots)) (instruction_of to) in
-    omega (arith, rest, all)

@@ -136,44 +136,45 @@ module _ (size bound : ℕ) (masked : AreMasked size bound) (n : ℕ) (inside : 
     ready : IsReady c turn (suc i)
     left : c.slots ≡ exchanged size slots slot (pos n) word (is_there (leb (i * size) n) (leb (suc i * size) n))
 
+  -- what its exchange leaves by its mask, with the mask of the next block
+  record ExchangesBy (slot i : ℕ) (c : Contents) (m : ℤ) : Type 0 where
+    mask : mask_word (suc i * size) (c.registers 0) ≡ mask_of (leb (suc i * size) n)
+    left : keeping_old size c.slots slot (c.registers 0) (c.outside value)
+        (applied Xor m (mask_word (suc i * size) (c.registers 0)))
+        ≡ exchanged size c.slots slot (pos n) word (is_there (leb (i * size) n) (leb (suc i * size) n))
+    words : HaveWords (keeping_old size c.slots slot (c.registers 0) (c.outside value)
+        (applied Xor m (mask_word (suc i * size) (c.registers 0))))
+
+  exchanges-by : (slot i : ℕ) (c : Contents) (m : ℤ) → suc i * size ≤ bound → c.outside value ≡ word
+      → c.registers 0 ≡ pos n → m ≡ mask_of (leb (i * size) n) → HaveWords c.slots → ExchangesBy slot i c m
+  exchanges-by slot i c m le value_is number is_mask have =
+      let now = leb (i * size) n in
+      let later = leb (suc i * size) n in
+      let next = made (suc i) (c.registers 0) (omega arith) le number in
+      let kept = kept-old c.slots slot (c.outside value) (c.registers 0)
+      (applied Xor m (mask_word (suc i * size) (c.registers 0))) (is_there now later) value_is
+      number (there m (mask_word (suc i * size) (c.registers 0)) now later is_mask next)
+      have in
+      record {
+        mask = next;
+        left = kept;
+        words = subst HaveWords (sym kept) (exchanged-words size c.slots slot (pos n) word (is_there now later) have fits);
+      }
+
   middle-exchange : (turn : Bool) (slot next : ℕ) (slots : List ℕ) (i : ℕ) (c : Contents) → suc i * size ≤ bound → IsReady c turn i
       → Middle c.slots slot i (not turn) (after size (middle_steps Stores size value i turn slot next slots) c)
   unfolding keeping_old
   middle-exchange true slot next slots i c le ready =
-      let now = leb (i * size) n in
-      let later = leb (suc i * size) n in
-      let mask = made (suc i) (c.registers 0) (omega arith) le ready.number in
-      let left = kept-old c.slots slot (c.outside value) (c.registers 0)
-      (applied Xor (c.registers 4) (mask_word (suc i * size) (c.registers 0))) (is_there now later) ready.value_is
-      ready.number (there (c.registers 4) (mask_word (suc i * size) (c.registers 0)) now later ready.mask mask)
-      ready.words in
+      let by = exchanges-by slot i c (c.registers 4) le ready.value_is ready.number ready.mask ready.words in
       record {
-        ready = record {
-          value_is = ready.value_is;
-          number = ready.number;
-          mask = mask;
-          words = subst HaveWords (sym left)
-              (exchanged-words size c.slots slot (pos n) word (is_there now later) ready.words fits);
-        };
-        left = left;
+        ready = record { value_is = ready.value_is; number = ready.number; mask = by.mask; words = by.words };
+        left = by.left;
       }
   middle-exchange false slot next slots i c le ready =
-      let now = leb (i * size) n in
-      let later = leb (suc i * size) n in
-      let mask = made (suc i) (c.registers 0) (omega arith) le ready.number in
-      let left = kept-old c.slots slot (c.outside value) (c.registers 0)
-      (applied Xor (c.registers 3) (mask_word (suc i * size) (c.registers 0))) (is_there now later) ready.value_is
-      ready.number (there (c.registers 3) (mask_word (suc i * size) (c.registers 0)) now later ready.mask mask)
-      ready.words in
+      let by = exchanges-by slot i c (c.registers 3) le ready.value_is ready.number ready.mask ready.words in
       record {
-        ready = record {
-          value_is = ready.value_is;
-          number = ready.number;
-          mask = mask;
-          words = subst HaveWords (sym left)
-              (exchanged-words size c.slots slot (pos n) word (is_there now later) ready.words fits);
-        };
-        left = left;
+        ready = record { value_is = ready.value_is; number = ready.number; mask = by.mask; words = by.words };
+        left = by.left;
       }
 
   exchanges : (slots : List ℕ) (first i : ℕ) (turn : Bool) (c : Contents) → (i + length slots) * size ≤ bound

@@ -2,7 +2,7 @@ use Rattle.std.proofs.Common.{◌≡◌, ◌∷◌, true, Some, option_map, refl
 use Rattle.json.specs.Json.{parse_map}
 use Rattle.json.specs.Reads.{token_of}
 use Rattle.serde_json.specs.Data.{array, object}
-use Rattle.run_data.specs.Given.{given_members}
+use Rattle.run_data.specs.Given.{least_given}
 use Rattle.run_data.proofs.JsonTokens.{is_plain, is_misplaced, plain_read, number_read, number_refused, opened_array, opened_object, no_token, misplaced}
 use Rattle.run_data.proofs.members.read_object.Goals as goal
 
@@ -14,14 +14,14 @@ returns-in-String-clause-given c =
     let first : c.args.reader.now ≡ token_of c.in_ok-token.token ∷ c.next.new.self = grind arith in
     let plain : is_plain (token_of c.in_ok-token.token) ≡ true = grind arith in
     let read = plain_read 127 (token_of c.in_ok-token.token) c.args.reader.now c.next.new.self plain first in
-    (read.data_is, read.was_read, ap (option_map given_members) read.no_members_in)
+    (read.data_is, read.was_read, ap (option_map (least_given c.args.most)) read.no_members_in)
 
 pub returns-in-Some-clause-given : goal.returns-in-Some-clause-given
 returns-in-Some-clause-given c =
     let first : c.args.reader.now ≡ token_of c.in_ok-token.token ∷ c.next.new.self = grind arith in
     let is = first ∙ ap (λ k. token_of k ∷ c.next.new.self) c.in-Number.is in
     let read = number_read 127 c.in-Number.text.now c.args.reader.now c.next.new.self c.in-Some.field-0 is c.in-Some.ensures in
-    (read.data_is, read.was_read, ap (option_map given_members) read.no_members_in)
+    (read.data_is, read.was_read, ap (option_map (least_given c.args.most)) read.no_members_in)
 
 pub returns-in-None-clause-none : goal.returns-in-None-clause-none
 returns-in-None-clause-none c = λ other.

@@ -8,15 +8,15 @@ pub loop-i-preserved : goal.loop-i-preserved
 loop-i-preserved c =
     exchanges_more
     (c.args.code.now.items
-    ++ code_of c.args.to (exchanges_steps c.args.effect c.args.size c.args.value 1 false c.args.slots.now))
-    c.loop-i.code.items c.put_next_mask.new.code.items c.put_exchange.new.code.items c.args.to c.args.size c.args.value
-    c.mask_register.result c.args.effect c.loop-i.turn c.args.slots.now c.loop-i.i c.loop-i.invariant
+    ++ code_of c.args.w.to (exchanges_steps c.args.w.effect c.args.w.size c.args.w.value 1 false c.args.slots.now))
+    c.loop-i.code.items c.put_next_mask.new.code.items c.put_exchange.new.code.items c.args.w.to c.args.w.size c.args.w.value
+    c.mask_register.result c.args.w.effect c.loop-i.turn c.args.slots.now c.loop-i.i c.loop-i.invariant
     c.loop-i-test.true c.in_ok-put_next_mask.ensures c.mask_register.ensures.value c.in_ok-put_exchange.ensures
 
 pub returns : goal.returns
 returns c =
     exchanges_all
     (c.args.code.now.items
-    ++ code_of c.args.to (exchanges_steps c.args.effect c.args.size c.args.value 1 false c.args.slots.now))
-    c.loop-i.code.items c.args.to c.args.size c.args.value c.args.effect c.loop-i.turn c.args.slots.now c.loop-i.i
+    ++ code_of c.args.w.to (exchanges_steps c.args.w.effect c.args.w.size c.args.w.value 1 false c.args.slots.now))
+    c.loop-i.code.items c.args.w.to c.args.w.size c.args.w.value c.args.w.effect c.loop-i.turn c.args.slots.now c.loop-i.i
     c.loop-i.invariant c.loop-i-test.false
