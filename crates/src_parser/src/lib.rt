@@ -32,5 +32,5 @@ pub mod texts;
 pub use errors::{ParseError, TextError};
 pub use lone_expressions::expr_at;
 pub use parsing::{ProgramReader, parse};
-pub use readers::TokenReader;
+pub use readers::{TokenReader, read_tree};
 pub use texts::{read_source, read_text};

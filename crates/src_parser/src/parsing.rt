@@ -14,7 +14,7 @@ use crate::errors::ParseError;
 use crate::headings::{Heading, HeadingAdvance, read_heading};
 use crate::languages::Programs;
 use crate::putting::put;
-use crate::readers::TokenReader;
+use crate::readers::{TokenReader, read_tree};
 use crate::statements::{begin, complete, perform};
 use crate::states::{Advance, Blocks, ParserState, Pause, Phase};
 use gr_base::Memory;
@@ -229,12 +229,5 @@ pub fn parse(alloc: Global, tokens: &[Token]) -> Result<Program, ParseError>
     ensures parsed { IfOk result (λ program. Sentence limits (token_kinds tokens.now) (source_of program)) }
     ensures refused { IfErr result (λ error. ExplainsTokens error tokens.now) }
 {
-    let mut reader = ProgramReader::new(alloc);
-    match reader.read(alloc, tokens) {
-        Ok(()) => reader.finish(alloc),
-        Err(error) => {
-            drop(reader);
-            Err(error)
-        }
-    }
+    read_tree::<ProgramReader>(alloc, tokens)
 }

@@ -36,3 +36,18 @@ pub trait TokenReader: Drop {
         ensures finished { IfOk result (λ tree. (tokens : List Token) → HasRead tokens self → IsTree tokens tree) }
         ensures cut { IfErr result (λ error. (tokens : List Token) → HasRead tokens self → Explains error tokens) };
 }
+
+/// The tree of tokens, which are passed to a reader at once.
+pub fn read_tree<R: TokenReader>(alloc: Global, tokens: &[Token]) -> Result<R::Tree, ParseError>
+    ensures tree { IfOk result (λ tree. R.IsTree tokens.now tree) }
+    ensures refused { IfErr result (λ error. R.Explains error tokens.now) }
+{
+    let mut reader = R::new(alloc);
+    match reader.read(alloc, tokens) {
+        Ok(()) => reader.finish(alloc),
+        Err(error) => {
+            drop(reader);
+            Err(error)
+        }
+    }
+}
