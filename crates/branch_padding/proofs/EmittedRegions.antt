@@ -1,5 +1,5 @@
 -- What is appended for statements of secret code: part by part, and how much room they take.
-use Rattle.std.proofs.Common.{◌≡◌, ℕ, Bool, true, false, cond, zero, suc, ◌+◌, ◌-◌, ◌*◌, ◌<◌, ◌≤◌, pos, List, [], ◌∷◌, ◌++◌, length, take, drop, get_or, set, Option, refl, sym, ap, ◌∙◌, subst, arith, append_assoc, length-append, append-nil}
+use Rattle.std.proofs.Common.{◌≡◌, ℕ, Bool, true, false, cond, zero, suc, ◌+◌, ◌-◌, ◌*◌, ◌<◌, ◌≤◌, pos, List, [], ◌∷◌, ◌++◌, length, take, drop, get_or, set, Option, Some, None, refl, sym, ap, ◌∙◌, subst, arith, append_assoc, length-append, append-nil}
 use Rattle.std.proofs.lemmas.List.{take_more, take_all, take-append-drop, length-drop, get_or-drop}
 use Rattle.std.proofs.Math.Seq.{set-append_seam}
 use Rattle.gr_word.specs.declared.operations.Cmp.{Cmp}
@@ -196,6 +196,19 @@ region-made front untaken other cmp code behind is then =
     ∙ ap (λ l. set l (length head) jump) all
     ∙ set-append_seam head Nop other jump
     ∙ append_assoc front (branch ∷ untaken) (jump ∷ other)
+
+-- the arms of a branch that isn't quiet
+pub untaken-mirrored : (slack : Option Slack) (taken k : ℕ) (second first : List (List Instr))
+    → ((w : Slack) → slack ≡ Some w → ⊥)
+    → first_padded taken (untaken_arm k second first) ≡ first_arm slack taken k second first
+untaken-mirrored None taken k second first never = refl
+untaken-mirrored (Some w) taken k second first never = absurd (never w refl)
+
+pub taken-mirrored : (slack : Option Slack) (taken k : ℕ) (first second : List (List Instr))
+    → ((w : Slack) → slack ≡ Some w → ⊥)
+    → second_padded taken (taken_arm k first second) ≡ second_arm slack taken k first second
+taken-mirrored None taken k first second never = refl
+taken-mirrored (Some w) taken k first second never = absurd (never w refl)
 
 -- an arm as its pieces were found
 pub first-made : (f : Setting) (mode arm : Mode) (first second : Block) (slack : Option Slack) (k : ℕ) (a b : CodeBuf)

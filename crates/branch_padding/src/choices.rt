@@ -13,7 +13,7 @@ ghost use Rattle.block_cache_gen.specs.Notes.{guard_notes};
 ghost use Rattle.block_cache_gen.specs.ProgramWords.{BlockHasWords, StatementHasWords};
 ghost use Rattle.branch_padding.specs.EmittedBranches.{PartsFit, both_weights, choice_of};
 ghost use Rattle.branch_padding.specs.Rows.{HaveWords, row_between};
-ghost use Rattle.branch_padding.specs.Padded.{arm_mode, first_arm, first_padded, idle, in_a_row, padded_code, padded_codes, second_arm, second_padded, taken_arm, untaken_arm};
+ghost use Rattle.branch_padding.specs.Padded.{arm_mode, first_arm, idle, in_a_row, padded_code, padded_codes, second_arm};
 
 use crate::cycles::{Slack, slack_of};
 use block_cache_gen::{
@@ -123,53 +123,6 @@ fn put_row<'a>(
     Ok(())
 }
 
-// Appends the arm after the branch if it is mirrored. Before it are as many idle cycles as a taken branch costs more than
-// an untaken one.
-#[cycle(padding)]
-fn put_first_mirrored<'a>(
-    emitter: &Emitter<'a, '_, '_>,
-    out: &mut CodeBuf,
-    p: &Parts<'a>,
-) -> Result<(), Memory>
-    requires parts { PartsFit emitter.now p.now.mode p.now.pairs p.now.first.now p.now.second.now }
-    requires room { length out.old.code.items + 40 + 240 * both_weights emitter.now (block_of_all p.now.first.now)
-        (block_of_all p.now.second.now) ≤ most_instructions }
-    ensures emitted { OnOk result (Appended out.old out.new (first_padded emitter.now.profile.taken
-        (untaken_arm p.now.pairs (padded_codes emitter.now p.now.mode (block_of_all p.now.second.now))
-        (padded_codes emitter.now modes.Mirrored (block_of_all p.now.first.now)))) no_notes) }
-    ensures words { OnOk result (BlockHasWords (block_of_all p.now.second.now)) }
-    ensures grows { CodeGrows out.old out.new }
-{
-    let (first, second) = (p.first, p.second);
-    put_idle(out, emitter.taken() - 1)?;
-    put_row(emitter, out, second, 0, p.pairs, p.mode)?;
-    put_row(emitter, out, first, p.pairs, first.len(), Mode::Mirrored)?;
-    put_row(emitter, out, second, p.pairs, second.len(), p.mode)
-}
-
-// Appends the arm that the branch jumps to if it is mirrored. After it are as many idle cycles as the other arm's jump
-// costs.
-#[cycle(padding)]
-fn put_second_mirrored<'a>(
-    emitter: &Emitter<'a, '_, '_>,
-    out: &mut CodeBuf,
-    p: &Parts<'a>,
-) -> Result<(), Memory>
-    requires parts { PartsFit emitter.now p.now.mode p.now.pairs p.now.first.now p.now.second.now }
-    requires room { length out.old.code.items + 40 + 120 * both_weights emitter.now (block_of_all p.now.first.now)
-        (block_of_all p.now.second.now) ≤ most_instructions }
-    ensures emitted { OnOk result (Appended out.old out.new (second_padded emitter.now.profile.taken
-        (taken_arm p.now.pairs (padded_codes emitter.now p.now.mode (block_of_all p.now.first.now))
-        (padded_codes emitter.now modes.Mirrored (block_of_all p.now.second.now)))) no_notes) }
-    ensures words { OnOk result (BlockHasWords (block_of_all p.now.first.now)) }
-    ensures grows { CodeGrows out.old out.new }
-{
-    let (first, second) = (p.first, p.second);
-    put_row(emitter, out, first, 0, first.len(), p.mode)?;
-    put_row(emitter, out, second, p.pairs, second.len(), Mode::Mirrored)?;
-    put_idle(out, emitter.taken())
-}
-
 // Appends an arm of a quiet branch: a block, and then idle cycles.
 #[cycle(padding)]
 fn put_idling<'a>(
@@ -194,7 +147,8 @@ fn put_idling<'a>(
     put_idle(out, cycles)
 }
 
-// Appends the arm after the branch, which runs if the branch isn't taken.
+// Appends the arm after the branch, which runs if the branch isn't taken. If it is mirrored, as many idle cycles are
+// before it as a taken branch costs more than an untaken one.
 #[cycle(padding)]
 fn put_untaken<'a>(
     emitter: &Emitter<'a, '_, '_>,
@@ -210,13 +164,18 @@ fn put_untaken<'a>(
     ensures words { OnOk result (BlockHasWords (block_of_all p.now.second.now)) }
     ensures grows { CodeGrows out.old out.new }
 {
-    match p.slack {
-        None => put_first_mirrored(emitter, out, p),
-        Some(slack) => put_idling(emitter, out, p.second, slack.untaken, p.mode),
+    let (first, second) = (p.first, p.second);
+    if let Some(slack) = p.slack {
+        return put_idling(emitter, out, second, slack.untaken, p.mode);
     }
+    put_idle(out, emitter.taken() - 1)?;
+    put_row(emitter, out, second, 0, p.pairs, p.mode)?;
+    put_row(emitter, out, first, p.pairs, first.len(), Mode::Mirrored)?;
+    put_row(emitter, out, second, p.pairs, second.len(), p.mode)
 }
 
-// Appends the arm that the branch jumps to if it is taken.
+// Appends the arm that the branch jumps to if it is taken. If it is mirrored, as many idle cycles are after it as the
+// other arm's jump costs.
 #[cycle(padding)]
 fn put_taken<'a>(
     emitter: &Emitter<'a, '_, '_>,
@@ -232,10 +191,13 @@ fn put_taken<'a>(
     ensures words { OnOk result (BlockHasWords (block_of_all p.now.first.now)) }
     ensures grows { CodeGrows out.old out.new }
 {
-    match p.slack {
-        None => put_second_mirrored(emitter, out, p),
-        Some(slack) => put_idling(emitter, out, p.first, slack.taken, p.mode),
+    let (first, second) = (p.first, p.second);
+    if let Some(slack) = p.slack {
+        return put_idling(emitter, out, first, slack.taken, p.mode);
     }
+    put_row(emitter, out, first, 0, first.len(), p.mode)?;
+    put_row(emitter, out, second, p.pairs, second.len(), Mode::Mirrored)?;
+    put_idle(out, emitter.taken())
 }
 
 /// Appends the code of a branch whose arms show the same, in code of any mode. In public code its guard is public code.

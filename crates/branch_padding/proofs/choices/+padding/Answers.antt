@@ -1,7 +1,8 @@
 use Rattle.std.proofs.lemmas.Result.{on_ok_weaker}
-use Rattle.std.proofs.Common.{rules, ◌≡◌, ℕ, ◌+◌, ◌-◌, ◌*◌, ◌≤◌, length, refl, sym, ◌∙◌, subst, arith}
+use Rattle.std.proofs.Common.{rules, ◌≡◌, ℕ, ◌+◌, ◌-◌, ◌*◌, ◌≤◌, List, length, refl, sym, ◌∙◌, subst, arith}
 use Rattle.gr_word.specs.declared.variables.Label.TheVariants as label
 use Rattle.lt_isa.specs.Limits.{most_instructions}
+use Rattle.lt_isa.specs.declared.instructions.Instr.{Instr}
 use Rattle.lt_isa.specs.declared.instructions.Instr.TheVariants.{Nop}
 use Rattle.src_tree.specs.Contexts.{context_of}
 use Rattle.src_tree.specs.Limits.{LowStatement, statement_weight, block_weight}
@@ -14,11 +15,11 @@ use Rattle.branch_padding.specs.Padded.{idle, padded_code, padded_codes}
 use Rattle.branch_padding.specs.EmittedBranches.{both_weights}
 use Rattle.branch_padding.specs.Rows.{HaveWords, row_between}
 use Rattle.block_cache_gen.specs.ProgramWords.{StatementHasWords}
-use Rattle.branch_padding.proofs.EmittedRegions.{weight-at, choice-appended, first-made, second-made, idling-appended, typed-at, low-at, row-start, row-more, row-room, row-behind, untaken-appended, taken-appended_whole}
+use Rattle.branch_padding.proofs.EmittedRegions.{weight-at, choice-appended, first-made, second-made, idling-appended, typed-at, low-at, row-start, row-more, row-room, row-behind, taken-mirrored, untaken-appended, untaken-mirrored, taken-appended_whole}
 use Rattle.branch_padding.proofs.RegionLengths.{behind-branch, behind-untaken, parts-fit, guard-behind, idle-behind, one-behind, set-behind, taken-behind}
 use Rattle.branch_padding.proofs.GrowingRows.{appended-grows, branch-grows, grows_thrice, set-grows, grows-longer, words-none, words-more, words-both, words-all}
 use Rattle.branch_padding.proofs.choices.+padding.Goals as goal
-use Rattle.branch_padding.proofs.choices.+padding.Goals.{put_choice-In_ok-put_untaken, put_choice-After-set_branch, put_first_mirrored-In_ok-put_idle}
+use Rattle.branch_padding.proofs.choices.+padding.Goals.{put_choice-In_ok-put_untaken, put_choice-After-set_branch, put_untaken-In_ok-put_idle}
 
 pub put_choice-next_place-branch-requires : goal.put_choice-next_place-branch-requires
 put_choice-next_place-branch-requires t c =
@@ -240,8 +241,8 @@ put_row-returns t c =
           no_notes c.loop-i.invariant.made;
     }
 
-pub put_second_mirrored-put_row-requires-2 : goal.put_second_mirrored-put_row-requires-2
-put_second_mirrored-put_row-requires-2 t c =
+pub put_taken-put_row-requires-2 : goal.put_taken-put_row-requires-2
+put_taken-put_row-requires-2 t c =
     let fit = c.requires.parts in
     let room = c.requires.room in
     let row = row-behind c.args.emitter.now fit.few c.args.p.now.mode c.args.p.now.first.now 0
@@ -254,22 +255,27 @@ put_second_mirrored-put_row-requires-2 t c =
       ),
     )
 
-pub put_second_mirrored-returns-in_err-put_row-2-clause-grows : goal.put_second_mirrored-returns-in_err-put_row-2-clause-grows
-put_second_mirrored-returns-in_err-put_row-2-clause-grows t c =
+pub put_taken-returns-in_err-put_row-2-clause-grows : goal.put_taken-returns-in_err-put_row-2-clause-grows
+put_taken-returns-in_err-put_row-2-clause-grows t c =
     grows_then c.args.out.now c.put_row.new.out c.put_row-2.new.out c.put_row.ensures.grows c.put_row-2.ensures.grows
 
-pub put_second_mirrored-returns : goal.put_second_mirrored-returns
-put_second_mirrored-returns t c = record {
+pub put_taken-returns : goal.put_taken-returns
+put_taken-returns t c = record {
   emitted =
       on_ok_weaker c.put_idle.result
-      (λ x. taken-appended_whole c.args.emitter.now c.args.p.now.mode c.args.p.now.first.now c.args.p.now.second.now
+      (λ x.
+      subst (λ (code : List Instr). Appended c.args.out.now c.put_idle.new.out code no_notes)
+      (taken-mirrored c.args.p.now.slack c.args.emitter.now.profile.taken c.args.p.now.pairs
+      (padded_codes c.args.emitter.now c.args.p.now.mode (block_of_all c.args.p.now.first.now))
+      (padded_codes c.args.emitter.now modes.Mirrored (block_of_all c.args.p.now.second.now)) c.in_default.not-Some)
+      (taken-appended_whole c.args.emitter.now c.args.p.now.mode c.args.p.now.first.now c.args.p.now.second.now
       c.args.p.now.pairs
       c.args.emitter.now.profile.taken
       (length c.args.p.now.first.now) (length c.args.p.now.second.now) c.args.out.now c.put_row.new.out
       c.put_row-2.new.out
       c.put_idle.new.out refl refl
       c.in_ok-put_row.ensures.emitted c.in_ok-put_row-2.ensures.emitted
-      (subst (λ n. Appended c.put_row-2.new.out c.put_idle.new.out (idle n) no_notes) c.taken.ensures.value x))
+      (subst (λ n. Appended c.put_row-2.new.out c.put_idle.new.out (idle n) no_notes) c.taken.ensures.value x)))
       c.put_idle.ensures.appended;
   words =
       on_ok_weaker c.put_idle.result (λ x. words-all c.args.p.now.first.now c.in_ok-put_row.ensures.words)
@@ -282,7 +288,7 @@ put_second_mirrored-returns t c = record {
 }
 
 -- this many may still follow the idle instructions
-left_idle : (t : ℕ) (c : put_first_mirrored-In_ok-put_idle t)
+left_idle : (t : ℕ) (c : put_untaken-In_ok-put_idle t)
     → length c.put_idle.new.out.code.items
     + 240 * both_weights c.args.emitter.now (block_of_all c.args.p.now.first.now) (block_of_all c.args.p.now.second.now)
     ≤ most_instructions
@@ -294,10 +300,10 @@ left_idle t c =
       idle-behind c.args.out.now c.put_idle.new.out (c.taken.result - 1) c.in_ok-put_idle.ensures.appended,
     )
 
-pub put_first_mirrored-put_row-requires : goal.put_first_mirrored-put_row-requires
-put_first_mirrored-put_row-requires t c =
+pub put_untaken-put_row-requires : goal.put_untaken-put_row-requires
+put_untaken-put_row-requires t c =
     let fit = c.requires.parts in
-    let idle = left_idle t (goal.at.put_first_mirrored-put_row-requires t c).In_ok-put_idle in (
+    let idle = left_idle t (goal.at.put_untaken-put_row-requires t c).In_ok-put_idle in (
       search rules,
       (
         omega arith,
@@ -308,10 +314,10 @@ put_first_mirrored-put_row-requires t c =
       ),
     )
 
-pub put_first_mirrored-put_row-requires-2 : goal.put_first_mirrored-put_row-requires-2
-put_first_mirrored-put_row-requires-2 t c =
+pub put_untaken-put_row-requires-2 : goal.put_untaken-put_row-requires-2
+put_untaken-put_row-requires-2 t c =
     let fit = c.requires.parts in
-    let idle = left_idle t (goal.at.put_first_mirrored-put_row-requires-2 t c).In_ok-put_idle in
+    let idle = left_idle t (goal.at.put_untaken-put_row-requires-2 t c).In_ok-put_idle in
     let row = row-behind c.args.emitter.now fit.few c.args.p.now.mode c.args.p.now.second.now 0 c.args.p.now.pairs
     c.put_idle.new.out
     c.put_row.new.out c.in_ok-put_row.ensures.emitted in (
@@ -322,10 +328,10 @@ put_first_mirrored-put_row-requires-2 t c =
       ),
     )
 
-pub put_first_mirrored-put_row-requires-3 : goal.put_first_mirrored-put_row-requires-3
-put_first_mirrored-put_row-requires-3 t c =
+pub put_untaken-put_row-requires-3 : goal.put_untaken-put_row-requires-3
+put_untaken-put_row-requires-3 t c =
     let fit = c.requires.parts in
-    let idle = left_idle t (goal.at.put_first_mirrored-put_row-requires-3 t c).In_ok-put_idle in
+    let idle = left_idle t (goal.at.put_untaken-put_row-requires-3 t c).In_ok-put_idle in
     let row = row-behind c.args.emitter.now fit.few c.args.p.now.mode c.args.p.now.second.now 0 c.args.p.now.pairs
     c.put_idle.new.out
     c.put_row.new.out c.in_ok-put_row.ensures.emitted in
@@ -338,19 +344,24 @@ put_first_mirrored-put_row-requires-3 t c =
       ),
     )
 
-pub put_first_mirrored-returns-in_err-put_row-clause-grows : goal.put_first_mirrored-returns-in_err-put_row-clause-grows
-put_first_mirrored-returns-in_err-put_row-clause-grows t c =
+pub put_untaken-returns-in_err-put_row-clause-grows : goal.put_untaken-returns-in_err-put_row-clause-grows
+put_untaken-returns-in_err-put_row-clause-grows t c =
     grows_then c.args.out.now c.put_idle.new.out c.put_row.new.out c.put_idle.ensures.grows c.put_row.ensures.grows
 
-pub put_first_mirrored-returns-in_err-put_row-2-clause-grows : goal.put_first_mirrored-returns-in_err-put_row-2-clause-grows
-put_first_mirrored-returns-in_err-put_row-2-clause-grows t c =
+pub put_untaken-returns-in_err-put_row-2-clause-grows : goal.put_untaken-returns-in_err-put_row-2-clause-grows
+put_untaken-returns-in_err-put_row-2-clause-grows t c =
     grows_thrice c.args.out.now c.put_idle.new.out c.put_row.new.out c.put_row-2.new.out c.put_idle.ensures.grows
     c.put_row.ensures.grows c.put_row-2.ensures.grows
 
-pub put_first_mirrored-returns : goal.put_first_mirrored-returns
-put_first_mirrored-returns t c = record {
+pub put_untaken-returns : goal.put_untaken-returns
+put_untaken-returns t c = record {
   emitted =
       on_ok_weaker c.put_row-3.result
+      (λ x.
+      subst (λ (code : List Instr). Appended c.args.out.now c.put_row-3.new.out code no_notes)
+      (untaken-mirrored c.args.p.now.slack c.args.emitter.now.profile.taken c.args.p.now.pairs
+      (padded_codes c.args.emitter.now c.args.p.now.mode (block_of_all c.args.p.now.second.now))
+      (padded_codes c.args.emitter.now modes.Mirrored (block_of_all c.args.p.now.first.now)) c.in_default.not-Some)
       (untaken-appended c.args.emitter.now c.args.p.now.mode c.args.p.now.first.now c.args.p.now.second.now
       c.args.p.now.pairs
       c.args.emitter.now.profile.taken
@@ -360,7 +371,7 @@ put_first_mirrored-returns t c = record {
       c.put_row-3.new.out refl refl
       (subst (λ n. Appended c.args.out.now c.put_idle.new.out (idle (n - 1)) no_notes) c.taken.ensures.value
       c.in_ok-put_idle.ensures.appended)
-      c.in_ok-put_row.ensures.emitted c.in_ok-put_row-2.ensures.emitted)
+      c.in_ok-put_row.ensures.emitted c.in_ok-put_row-2.ensures.emitted x))
       c.put_row-3.ensures.emitted;
   words =
       on_ok_weaker c.put_row-3.result

@@ -15,14 +15,6 @@ decreases-put_padded l = 5 * statement_weight (context_of l.emitter.now.decls) l
 abbrev pub decreases-put_row : goal.decreases-put_row
 decreases-put_row l = 5 * block_weight (context_of l.emitter.now.decls) label.Secret (block_of_all l.part.now) + 1
 
-abbrev pub decreases-put_first_mirrored : goal.decreases-put_first_mirrored
-decreases-put_first_mirrored l =
-    5 * both_weights l.emitter.now (block_of_all l.p.now.first.now) (block_of_all l.p.now.second.now) + 2
-
-abbrev pub decreases-put_second_mirrored : goal.decreases-put_second_mirrored
-decreases-put_second_mirrored l =
-    5 * both_weights l.emitter.now (block_of_all l.p.now.first.now) (block_of_all l.p.now.second.now) + 2
-
 abbrev pub decreases-put_idling : goal.decreases-put_idling
 decreases-put_idling l = 5 * block_weight (context_of l.emitter.now.decls) label.Secret (block_of_all l.part.now) + 2
 
