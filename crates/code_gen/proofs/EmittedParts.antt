@@ -1,5 +1,6 @@
 -- How long the public code of guards, assignments and loops is, and what is appended for statements, by their parts.
-use Rattle.std.proofs.Common.{◌≡◌, ℕ, ◌+◌, ◌-◌, ◌*◌, ◌≤◌, Bool, true, false, ◌||◌, ◌==◌, pos, negsuc, List, [], ◌∷◌, ◌++◌, length, set, refl, sym, ap, ◌∙◌, arith, append_assoc, append-nil, eq-eqb}
+use Rattle.std.proofs.Common.{◌≡◌, ℕ, ◌+◌, ◌-◌, ◌*◌, ◌≤◌, Bool, true, false, ◌||◌, ◌==◌, pos, negsuc, List, [], ◌∷◌, ◌++◌, length, set, refl, sym, ap, ◌∙◌, arith, append_assoc, append-nil, eq-eqb, Result, Ok, Err}
+use Rattle.std.specs.Prelude.{OnOk}
 use Rattle.std.proofs.lemmas.Bool.{ne_eqb}
 use Rattle.std.proofs.lemmas.List.{length-append, length-set}
 use Rattle.std.proofs.Math.Seq.{set-append_seam}
@@ -17,11 +18,13 @@ use Rattle.block_cache_gen.specs.Homes.{Setting}
 use Rattle.block_cache_gen.specs.Codes.{expr_code, guard_code, set_code}
 use Rattle.block_cache_gen.specs.Notes.{guard_notes, set_notes}
 use Rattle.block_cache_gen.specs.Emitted.{Appended, no_notes, EmitsGuard, EmitsSet}
+use Rattle.block_cache_gen.specs.ProgramWords.{BlockHasWords}
+use Rattle.block_cache_gen.specs.TreeWords.{TestHasWords}
 use Rattle.block_cache_gen.proofs.Emitting.{appended_then, appended_length}
 use Rattle.block_cache_gen.proofs.Sizes.{expr_code_short, set_code_short}
 use Rattle.branch_padding.specs.AfterStatements.{after, behind_loop, within_loop}
 use Rattle.code_gen.specs.Statements.{statement_code, block_code, statement_notes, block_notes, block_ends_noted, head_note, head_unless, guard_note}
-use Rattle.code_gen.specs.Emitted.{padding_of, EmitsStatement, EmitsBlock, ClosesLoop, noted_behind}
+use Rattle.code_gen.specs.Emitted.{padding_of, EmitsStatement, EmitsBlock, ClosesLoop, Puts, noted_behind}
 
 pub tree_weight-some : (e : Tree) → 1 ≤ tree_weight e
 tree_weight-some (Number z) = omega arith
@@ -205,3 +208,17 @@ loop-emitted f t body a b c d e old start noted is_start is_noted x y z w =
           ∷ (block_notes inner padding_of (A + 1) body
           ++ (guard_note f code (block_ends_noted f.decls body) n ++ guard_notes behind 0 n t)))) at_guard;
     }
+
+-- a loop is put if its guard closes it
+pub puts-closed : {T E P : Type 0} (f : Setting) (t : Test) (body : Block) (a d e : CodeBuf) (r : Result T E)
+    → length d.code.items
+    ≤ length a.code.items + 2 + 120 * block_weight (context_of f.decls) label.Public body
+    → BlockHasWords body → (P → EmitsStatement f (Loop t body) a e) → OnOk r P
+    → OnOk r (length e.code.items ≤ length d.code.items + 120 * test_weight t) → OnOk r (TestHasWords t)
+    → OnOk r (Puts f (Loop t body) a e)
+puts-closed f t body a d e (Ok x) before words made p short guard = record {
+  emitted = made p;
+  short = omega (arith, before, short);
+  words = (guard, words);
+}
+puts-closed f t body a d e (Err x) before words made p short guard = tt

@@ -3,7 +3,7 @@ use Rattle.std.proofs.Common.{◌≡◌, ℕ, ◌+◌, ◌<◌, ◌≤◌, ℤ, 
 use Rattle.std.proofs.lemmas.List.{drop_all}
 use Rattle.std.proofs.lemmas.Option.{slice_get-get_or, slice_get_read, slice_get_within, get_or_from_slice_get}
 use Rattle.lt_isa.specs.declared.instructions.Instr.{Instr}
-use Rattle.lt_isa.specs.declared.instructions.Instr.TheVariants.{Li, Ldw, Stw}
+use Rattle.lt_isa.specs.declared.instructions.Instr.TheVariants.{Li}
 use Rattle.bank_alloc.specs.declared.places.Place.{Place}
 use Rattle.block_cache_gen.specs.declared.frames.CodeBuf.{CodeBuf}
 use Rattle.block_cache_gen.specs.Emitted.{Appended, no_notes}
@@ -11,7 +11,7 @@ use Rattle.scratch_alloc.specs.declared.plans.Pin.{Pin}
 use Rattle.scratch_alloc.specs.Plans.{no_place}
 use Rattle.held_registers.specs.declared.registers.Held.TheVariants.{Scalar}
 use Rattle.block_cache_gen.specs.declared.frames.Frame.{Frame}
-use Rattle.block_cache_gen.specs.HeldCodes.{home_numbered, begin_code, end_code, each_held}
+use Rattle.block_cache_gen.specs.HeldCodes.{home_numbered, each_held}
 use Rattle.block_cache_gen.specs.Homes.{Held, Home, Setting}
 use Rattle.block_cache_gen.specs.Settings.{IsFrame, home_at, setting_of}
 use Rattle.block_cache_gen.proofs.FrameParts.{frame_places, frame_slots}
@@ -19,7 +19,9 @@ use Rattle.block_cache_gen.proofs.HeldBeginning.{held-at}
 use Rattle.block_cache_gen.proofs.Settled.{get_or-homes_at}
 use Rattle.block_cache_gen.proofs.Emitting.{silent_behind}
 use Rattle.branch_padding.proofs.EmittedRegions.{appended-none}
-use Rattle.code_gen.specs.Programs.{each_slot}
+use Rattle.code_gen.specs.declared.programs.Phase.{Phase}
+use Rattle.code_gen.specs.declared.programs.Phase.TheVariants.{Beginning, Ending}
+use Rattle.code_gen.specs.Programs.{access, each_slot, register_code}
 
 -- what is appended from a slot on, to the end
 abbrev pub SlotsAppended : (ℕ → Option Pin → List Instr) → List (Option Pin) → ℕ → CodeBuf → CodeBuf → Type 0
@@ -108,18 +110,18 @@ scalar-placed f frame n q slot value below place_is slot_is value_is =
     )
 
 -- so this is the code for a scalar
-pub begun-scalar : (f : Setting) (r n : ℕ) (h : Held) (value : ℤ) (slot : ℕ) (a b : CodeBuf) → h ≡ Scalar n
-    → (value ≡ pos (home_numbered f n).word) × (slot ≡ (home_numbered f n).slot)
-    → Appended a b (Li 0 value ∷ Ldw r slot 0 ∷ []) no_notes → Appended a b (begin_code f r h) no_notes
-begun-scalar f r n h value slot a b is placed made =
-    subst (λ k. Appended a b (begin_code f r k) no_notes) (sym is)
-    (subst (λ v. Appended a b (Li 0 v ∷ Ldw r (home_numbered f n).slot 0 ∷ []) no_notes) placed.0
-    (subst (λ s. Appended a b (Li 0 value ∷ Ldw r s 0 ∷ []) no_notes) placed.1 made))
+scalar-code : (phase : Phase) (f : Setting) (r n : ℕ)
+    → Li 0 (pos (home_numbered f n).word) ∷ access phase r (home_numbered f n).slot ∷ []
+    ≡ register_code phase f r (Scalar n)
+scalar-code Beginning f r n = refl
+scalar-code Ending f r n = refl
 
-pub ended-scalar : (f : Setting) (r n : ℕ) (h : Held) (value : ℤ) (slot : ℕ) (a b : CodeBuf) → h ≡ Scalar n
+pub scalar-accessed : (phase : Phase) (f : Setting) (r n : ℕ) (h : Held) (value : ℤ) (slot : ℕ) (i : Instr)
+    (a b : CodeBuf) → h ≡ Scalar n → i ≡ access phase r slot
     → (value ≡ pos (home_numbered f n).word) × (slot ≡ (home_numbered f n).slot)
-    → Appended a b (Li 0 value ∷ Stw r slot 0 ∷ []) no_notes → Appended a b (end_code f r h) no_notes
-ended-scalar f r n h value slot a b is placed made =
-    subst (λ k. Appended a b (end_code f r k) no_notes) (sym is)
-    (subst (λ v. Appended a b (Li 0 v ∷ Stw r (home_numbered f n).slot 0 ∷ []) no_notes) placed.0
-    (subst (λ s. Appended a b (Li 0 value ∷ Stw r s 0 ∷ []) no_notes) placed.1 made))
+    → Appended a b (Li 0 value ∷ i ∷ []) no_notes → Appended a b (register_code phase f r h) no_notes
+scalar-accessed phase f r n h value slot i a b is accessed placed made =
+    let code : Li 0 value ∷ i ∷ []
+    ≡ Li 0 (pos (home_numbered f n).word) ∷ access phase r (home_numbered f n).slot ∷ [] =
+    (λ k. Li 0 (placed.0 k) ∷ (accessed ∙ ap (access phase r) placed.1) k ∷ []) in
+    subst (λ l. Appended a b l no_notes) (code ∙ scalar-code phase f r n ∙ ap (register_code phase f r) (sym is)) made

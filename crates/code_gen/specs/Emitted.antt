@@ -1,11 +1,16 @@
 -- For the proofs and for private clauses only: what a call appends for statements of public code.
-use Rattle.std.specs.Prelude.{◌≡◌, ℕ, ◌+◌, ◌-◌, Bool, ◌||◌, ◌==◌, pos, negsuc, List, [], ◌∷◌, ◌++◌, length, slice_set}
+use Rattle.std.specs.Prelude.{◌≡◌, ℕ, ◌+◌, ◌-◌, ◌*◌, ◌≤◌, Bool, ◌||◌, ◌==◌, pos, negsuc, List, [], ◌∷◌, ◌++◌, length, slice_set}
 use Rattle.gr_word.specs.declared.operations.Cmp.{Cmp}
+use Rattle.gr_word.specs.declared.variables.Label.TheVariants as label
+use Rattle.lt_isa.specs.Limits.{most_instructions}
 use Rattle.lt_isa.specs.declared.symbols.Note.{Note}
 use Rattle.lt_isa.specs.declared.instructions.Instr.{Instr}
 use Rattle.lt_isa.specs.declared.instructions.Instr.TheVariants.{Jmp, Br}
 use Rattle.src_tree.specs.declared.trees.Decl.{Decl}
 use Rattle.scalar_ranges.specs.Ranges.{Ranges}
+use Rattle.src_tree.specs.Contexts.{context_of}
+use Rattle.src_tree.specs.Limits.{LowStatement, statement_weight}
+use Rattle.src_tree.specs.Typing.{TypedStatement}
 use Rattle.src_tree.specs.Trees.{Test, Statement, Choice, Block, Nothing, Then}
 use Rattle.block_cache_gen.specs.declared.frames.CodeBuf.{CodeBuf}
 use Rattle.block_cache_gen.specs.declared.frames.Mode.TheVariants.{Public}
@@ -13,6 +18,7 @@ use Rattle.block_cache_gen.specs.Homes.{Setting, ranged}
 use Rattle.block_cache_gen.specs.Codes.{guard_code}
 use Rattle.block_cache_gen.specs.Notes.{guard_notes}
 use Rattle.block_cache_gen.specs.Emitted.{Appended}
+use Rattle.block_cache_gen.specs.ProgramWords.{StatementHasWords}
 use Rattle.branch_padding.specs.Padded.{padded_code}
 use Rattle.code_gen.specs.Statements.{Padding, opposite, second_code, statement_code, block_code, statement_notes, block_notes, ends_noted, block_ends_noted, head_note, head_unless}
 
@@ -23,6 +29,20 @@ padding_of f t a b = padded_code f Public (Choice t a b)
 abbrev pub EmitsStatement : Setting → Statement → CodeBuf → CodeBuf → Type 0
 EmitsStatement f s before after =
     Appended before after (statement_code f padding_of s) (λ place. statement_notes f padding_of place s)
+
+-- a statement of public code whose code may follow code
+pub record MayFollow (f : Setting) (s : Statement) (before : CodeBuf) : Type 0 where
+  pub typed : TypedStatement (context_of f.decls) label.Public s
+  pub low : LowStatement s
+  pub room : length before.code.items + 120 * statement_weight (context_of f.decls) label.Public s
+      ≤ most_instructions
+
+-- its code was appended, and is no longer than its weight allows
+pub record Puts (f : Setting) (s : Statement) (before after : CodeBuf) : Type 0 where
+  pub emitted : EmitsStatement f s before after
+  pub short : length after.code.items
+      ≤ length before.code.items + 120 * statement_weight (context_of f.decls) label.Public s
+  pub words : StatementHasWords s
 
 abbrev pub EmitsBlock : Setting → Block → CodeBuf → CodeBuf → Type 0
 EmitsBlock f b before after =

@@ -4,14 +4,16 @@
 use Rattle.std.specs.Prelude.{ℕ, ◌+◌, Bool, true, false, pos, List, [], ◌∷◌, ◌++◌, if◌then◌else◌, length, count_by, Option, Some, None}
 use Rattle.lt_isa.specs.declared.symbols.Note.{Note}
 use Rattle.lt_isa.specs.declared.instructions.Instr.{Instr}
-use Rattle.lt_isa.specs.declared.instructions.Instr.TheVariants.{Li, Ldb, Stb, Halt}
+use Rattle.lt_isa.specs.declared.instructions.Instr.TheVariants.{Li, Ldw, Stw, Ldb, Stb, Halt}
 use Rattle.src_tree.specs.Trees.{Block}
 use Rattle.scratch_alloc.specs.declared.plans.Pin.{Pin}
 use Rattle.held_registers.specs.declared.registers.Held.TheVariants.{SecretZero, Number, Scalar}
 use Rattle.scalar_ranges.specs.Known.{nothing_known}
 use Rattle.block_cache_gen.specs.Homes.{Held, Setting, ranged}
-use Rattle.block_cache_gen.specs.HeldCodes.{held_beginning, held_ending}
+use Rattle.block_cache_gen.specs.HeldCodes.{begin_code, end_code, held_beginning, held_ending}
 use Rattle.block_cache_gen.specs.ServedBlocks.{first_blocks}
+use Rattle.code_gen.specs.declared.programs.Phase.{Phase}
+use Rattle.code_gen.specs.declared.programs.Phase.TheVariants.{Beginning, Ending}
 use Rattle.code_gen.specs.Statements.{Padding, block_code, block_notes}
 
 -- the load of a block to a slot, if there is a block
@@ -23,6 +25,21 @@ load_code slot (Some p) = Li 0 (pos p.block) ∷ Ldb slot p.bank 0 ∷ []
 abbrev pub pin_store : (slot : ℕ) → Option Pin → List Instr
 pin_store slot None = []
 pin_store slot (Some p) = Stb slot ∷ []
+
+-- the code that a slot needs before the statements of a program, and after them
+abbrev pub slot_code : Phase → (slot : ℕ) → Option Pin → List Instr
+slot_code Beginning = load_code
+slot_code Ending = pin_store
+
+-- the access of a register's word in a slot, whose number register 0 has
+abbrev pub access : Phase → (r slot : ℕ) → Instr
+access Beginning r slot = Ldw r slot 0
+access Ending r slot = Stw r slot 0
+
+-- the code that a register needs
+abbrev pub register_code : Phase → Setting → (r : ℕ) → Held → List Instr
+register_code Beginning = begin_code
+register_code Ending = end_code
 
 -- the code of each slot from one on, in order
 abbrev pub each_slot : ((slot : ℕ) → Option Pin → List Instr) → (slot : ℕ) → List (Option Pin) → List Instr

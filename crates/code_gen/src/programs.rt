@@ -5,12 +5,13 @@ ghost use Rattle.src_tree.specs.Limits.{LowBlock, block_weight, max_weight};
 ghost use Rattle.src_tree.specs.Trees.{block_of_all};
 ghost use Rattle.src_tree.specs.Typing.{TypedBlock};
 ghost use Rattle.held_registers.specs.declared.registers.Held.TheVariants.{Scalar};
-ghost use Rattle.block_cache_gen.specs.HeldCodes.{begin_code, end_code, held_beginning, held_ending};
+ghost use Rattle.held_registers.specs.Held.{secret_zero};
+ghost use Rattle.block_cache_gen.specs.HeldCodes.{each_held};
 ghost use Rattle.block_cache_gen.specs.Settings.{IsFrame, setting_of};
 ghost use Rattle.block_cache_gen.specs.Emitted.{Appended, no_notes};
 ghost use Rattle.block_cache_gen.specs.ProgramWords.{BlockHasWords};
 ghost use Rattle.code_gen.specs.Emitted.{padding_of};
-ghost use Rattle.code_gen.specs.Programs.{beginning, each_slot, ending, load_code, pin_store, program_code, program_notes};
+ghost use Rattle.code_gen.specs.Programs.{access, beginning, each_slot, ending, program_code, program_notes, register_code, slot_code};
 
 use crate::known::known_at_start;
 use crate::statements::put_block;
@@ -23,110 +24,102 @@ use scratch_alloc::Pin;
 use src_tree::Stmt;
 use std::alloc::Global;
 
-// The load of a block to a slot, if there is a block.
-fn put_load(out: &mut CodeBuf, slot: u8, block: Option<Pin>) -> Result<(), Memory>
-    ensures { OnOk result (Appended out.old out.new (load_code slot block) no_notes) }
+/// Where code is that slots and registers need: before the statements of a program, or after them.
+#[derive(Clone, Copy)]
+enum Phase {
+    Beginning,
+    Ending,
+}
+
+// The load of a block to a slot, or its store, if the slot has one.
+fn put_slot(out: &mut CodeBuf, phase: Phase, slot: u8, block: Option<Pin>) -> Result<(), Memory>
+    ensures { OnOk result (Appended out.old out.new (slot_code phase slot block) no_notes) }
 {
     match block {
         None => out.put(&[]),
-        Some(pin) => {
-            let number = Instr::Li {
-                rd: 0,
-                value: i64::from(pin.block),
-            };
-            let load = Instr::Ldb {
-                slot,
-                bank: pin.bank,
-                reg: 0,
-            };
-            out.put(&[number, load])
-        }
+        Some(pin) => match phase {
+            Phase::Beginning => {
+                let number = Instr::Li {
+                    rd: 0,
+                    value: i64::from(pin.block),
+                };
+                let load = Instr::Ldb {
+                    slot,
+                    bank: pin.bank,
+                    reg: 0,
+                };
+                out.put(&[number, load])
+            }
+            Phase::Ending => out.put(&[Instr::Stb { slot }]),
+        },
     }
 }
 
-// The store of a slot's block, if the slot is pinned.
-fn put_pin_store(out: &mut CodeBuf, slot: u8, pin: Option<Pin>) -> Result<(), Memory>
-    ensures { OnOk result (Appended out.old out.new (pin_store slot pin) no_notes) }
-{
-    match pin {
-        None => out.put(&[]),
-        Some(_) => out.put(&[Instr::Stb { slot }]),
-    }
-}
-
-// Loads blocks to the slots from 0 on.
-fn put_loads(out: &mut CodeBuf, blocks: &[Option<Pin>]) -> Result<(), Memory>
+// Loads or stores the blocks of the slots from 0 on.
+fn put_slots(out: &mut CodeBuf, phase: Phase, blocks: &[Option<Pin>]) -> Result<(), Memory>
     requires { length blocks.now ≤ 8 }
-    ensures { OnOk result (Appended out.old out.new (each_slot load_code 0 blocks.now) no_notes) }
+    ensures { OnOk result (Appended out.old out.new (each_slot (slot_code phase) 0 blocks.now) no_notes) }
 {
     for (slot, block) in blocks.iter().enumerate() {
-        put_load(out, slot as u8, *block)?;
+        put_slot(out, phase, slot as u8, *block)?;
     }
     Ok(())
 }
 
-// Stores the blocks of the pinned slots, from slot 0 on.
-fn put_pin_stores(out: &mut CodeBuf, pins: &[Option<Pin>]) -> Result<(), Memory>
-    requires { length pins.now ≤ 8 }
-    ensures { OnOk result (Appended out.old out.new (each_slot pin_store 0 pins.now) no_notes) }
+// Loads a register from the word of a slot that register 0 names, or stores it there.
+fn access(phase: Phase, register: u8, slot: u8) -> Instr
+    ensures { result ≡ access phase register slot }
 {
-    for (slot, pin) in pins.iter().enumerate() {
-        put_pin_store(out, slot as u8, *pin)?;
+    match phase {
+        Phase::Beginning => Instr::Ldw {
+            rd: register,
+            slot,
+            off: 0,
+        },
+        Phase::Ending => Instr::Stw {
+            rs: register,
+            slot,
+            off: 0,
+        },
     }
-    Ok(())
 }
 
-// What a register begins with.
-fn put_begun(out: &mut CodeBuf, f: &Frame<'_>, register: u8, held: Held) -> Result<(), Memory>
+// What a register begins with, or the store of the scalar that it holds.
+fn put_register(
+    out: &mut CodeBuf,
+    f: &Frame<'_>,
+    phase: Phase,
+    register: u8,
+    held: Held,
+) -> Result<(), Memory>
     requires frame { IsFrame f.now }
     requires scalar { (n : ℕ) → held ≡ Scalar n → n < length f.now.program.now.decls.items }
-    ensures { OnOk result (Appended out.old out.new (begin_code (setting_of f.now) register held) no_notes) }
+    ensures { OnOk result (Appended out.old out.new (register_code phase (setting_of f.now) register held) no_notes) }
 {
     match held {
-        Held::SecretZero => out.put(&[
-            Instr::Ldw {
-                rd: register,
-                slot: 1,
-                off: 0,
-            },
-            Instr::Alu {
-                op: Op::Sub,
-                rd: register,
-                ra: register,
-                rb: register,
-            },
-        ]),
-        Held::Number(value) => out.put(&[Instr::Li {
-            rd: register,
-            value,
-        }]),
-        Held::Scalar(number) => {
-            let number_of_word = i64::from(f.places.of_var[number as usize].word);
-            let slot = f.slots.of_var[number as usize];
-            out.put(&[
-                Instr::Li {
-                    rd: 0,
-                    value: number_of_word,
-                },
+        Held::SecretZero => match phase {
+            Phase::Beginning => out.put(&[
                 Instr::Ldw {
                     rd: register,
-                    slot,
+                    slot: 1,
                     off: 0,
                 },
-            ])
-        }
-    }
-}
-
-// The store of a scalar that a register holds.
-fn put_ended(out: &mut CodeBuf, f: &Frame<'_>, register: u8, held: Held) -> Result<(), Memory>
-    requires frame { IsFrame f.now }
-    requires scalar { (n : ℕ) → held ≡ Scalar n → n < length f.now.program.now.decls.items }
-    ensures { OnOk result (Appended out.old out.new (end_code (setting_of f.now) register held) no_notes) }
-{
-    match held {
-        Held::SecretZero => out.put(&[]),
-        Held::Number(_) => out.put(&[]),
+                Instr::Alu {
+                    op: Op::Sub,
+                    rd: register,
+                    ra: register,
+                    rb: register,
+                },
+            ]),
+            Phase::Ending => out.put(&[]),
+        },
+        Held::Number(value) => match phase {
+            Phase::Beginning => out.put(&[Instr::Li {
+                rd: register,
+                value,
+            }]),
+            Phase::Ending => out.put(&[]),
+        },
         Held::Scalar(number) => {
             let number_of_word = i64::from(f.places.of_var[number as usize].word);
             let slot = f.slots.of_var[number as usize];
@@ -135,34 +128,20 @@ fn put_ended(out: &mut CodeBuf, f: &Frame<'_>, register: u8, held: Held) -> Resu
                     rd: 0,
                     value: number_of_word,
                 },
-                Instr::Stw {
-                    rs: register,
-                    slot,
-                    off: 0,
-                },
+                access(phase, register, slot),
             ])
         }
     }
 }
 
-// What the registers begin with that hold something for the whole run.
-fn put_held_beginning(out: &mut CodeBuf, f: &Frame<'_>) -> Result<(), Memory>
+// What the registers begin with that hold something for the whole run, or the stores of the scalars among it.
+fn put_registers(out: &mut CodeBuf, f: &Frame<'_>, phase: Phase) -> Result<(), Memory>
     requires frame { IsFrame f.now }
-    ensures { OnOk result (Appended out.old out.new (held_beginning (setting_of f.now)) no_notes) }
+    ensures { OnOk result (Appended out.old out.new
+        (each_held (register_code phase (setting_of f.now)) secret_zero f.now.held.now) no_notes) }
 {
     for (place, held) in f.held.iter().enumerate() {
-        put_begun(out, f, place as u8 + 19, *held)?;
-    }
-    Ok(())
-}
-
-// The stores of the scalars that registers hold.
-fn put_held_ending(out: &mut CodeBuf, f: &Frame<'_>) -> Result<(), Memory>
-    requires frame { IsFrame f.now }
-    ensures { OnOk result (Appended out.old out.new (held_ending (setting_of f.now)) no_notes) }
-{
-    for (place, held) in f.held.iter().enumerate() {
-        put_ended(out, f, place as u8 + 19, *held)?;
+        put_register(out, f, phase, place as u8 + 19, *held)?;
     }
     Ok(())
 }
@@ -177,8 +156,8 @@ fn put_beginning(
     requires same { emitter.now ≡ setting_of f.now }
     ensures { OnOk result (Appended out.old out.new (beginning emitter.now) no_notes) }
 {
-    put_loads(out, &emitter.first_blocks())?;
-    put_held_beginning(out, f)
+    put_slots(out, Phase::Beginning, &emitter.first_blocks())?;
+    put_registers(out, f, Phase::Beginning)
 }
 
 // The stores of the scalars that registers hold and of the blocks that slots hold for the whole run, and the end.
@@ -187,8 +166,8 @@ fn put_ending(emitter: &Emitter<'_, '_, '_>, f: &Frame<'_>, out: &mut CodeBuf) -
     requires same { emitter.now ≡ setting_of f.now }
     ensures { OnOk result (Appended out.old out.new (ending emitter.now) no_notes) }
 {
-    put_held_ending(out, f)?;
-    put_pin_stores(out, &emitter.pins())?;
+    put_registers(out, f, Phase::Ending)?;
+    put_slots(out, Phase::Ending, &emitter.pins())?;
     out.put(&[Instr::Halt])
 }
 

@@ -3,14 +3,14 @@ ghost use Rattle.gr_word.specs.declared.variables.Label.TheVariants.{Public};
 ghost use Rattle.src_tree.specs.Contexts.{context_of};
 ghost use Rattle.src_tree.specs.Heights.{height_of};
 ghost use Rattle.src_tree.specs.Labels.{label_of_test};
-ghost use Rattle.src_tree.specs.Limits.{LowBlock, LowStatement, block_weight, statement_weight, test_weight};
+ghost use Rattle.src_tree.specs.Limits.{LowBlock, block_weight, test_weight};
 ghost use Rattle.src_tree.specs.Trees.{block_of_all, statement_of, test_of, expr_tree, Loop, SetElement, SetVariable};
-ghost use Rattle.src_tree.specs.Typing.{TypedBlock, TypedStatement, TypedTest};
+ghost use Rattle.src_tree.specs.Typing.{TypedBlock, TypedTest};
 ghost use Rattle.lt_isa.specs.Limits.{most_instructions};
-ghost use Rattle.block_cache_gen.specs.ProgramWords.{BlockHasWords, StatementHasWords};
+ghost use Rattle.block_cache_gen.specs.ProgramWords.{BlockHasWords};
 ghost use Rattle.block_cache_gen.specs.TreeWords.{TestHasWords};
 ghost use Rattle.branch_padding.specs.EmittedBranches.{choice_of};
-ghost use Rattle.code_gen.specs.Emitted.{ClosesLoop, EmitsBlock, EmitsStatement};
+ghost use Rattle.code_gen.specs.Emitted.{ClosesLoop, EmitsBlock, MayFollow, Puts};
 ghost use Rattle.code_gen.specs.Statements.{block_ends_noted, ends_noted};
 
 use crate::jumps::{backward, put_head_note, put_head_note_unless, set_branch_unless};
@@ -41,16 +41,8 @@ fn put_variable<'a>(
     name: &'a Name,
     value: &'a Expr,
 ) -> Result<(), Memory>
-    requires typed { TypedStatement (context_of emitter.now.decls) Public (SetVariable name.now (expr_tree value.now)) }
-    requires low { LowStatement (SetVariable name.now (expr_tree value.now)) }
-    requires room { length out.old.code.items
-        + 120 * statement_weight (context_of emitter.now.decls) Public (SetVariable name.now (expr_tree value.now))
-        ≤ most_instructions }
-    ensures emitted { OnOk result
-        (EmitsStatement emitter.now (SetVariable name.now (expr_tree value.now)) out.old out.new) }
-    ensures short { OnOk result (length out.new.code.items ≤ length out.old.code.items
-        + 120 * statement_weight (context_of emitter.now.decls) Public (SetVariable name.now (expr_tree value.now))) }
-    ensures words { OnOk result (StatementHasWords (SetVariable name.now (expr_tree value.now))) }
+    requires { MayFollow emitter.now (SetVariable name.now (expr_tree value.now)) out.old }
+    ensures { OnOk result (Puts emitter.now (SetVariable name.now (expr_tree value.now)) out.old out.new) }
 {
     put_set_variable(emitter, out, name, value, Mode::Public)
 }
@@ -63,16 +55,9 @@ fn put_element<'a>(
     index: &'a Expr,
     value: &'a Expr,
 ) -> Result<(), Memory>
-    requires typed { TypedStatement (context_of emitter.now.decls) Public
-        (SetElement name.now (expr_tree index.now) (expr_tree value.now)) }
-    requires low { LowStatement (SetElement name.now (expr_tree index.now) (expr_tree value.now)) }
-    requires room { length out.old.code.items + 120 * statement_weight (context_of emitter.now.decls) Public
-        (SetElement name.now (expr_tree index.now) (expr_tree value.now)) ≤ most_instructions }
-    ensures emitted { OnOk result
-        (EmitsStatement emitter.now (SetElement name.now (expr_tree index.now) (expr_tree value.now)) out.old out.new) }
-    ensures short { OnOk result (length out.new.code.items ≤ length out.old.code.items + 120 * statement_weight
-        (context_of emitter.now.decls) Public (SetElement name.now (expr_tree index.now) (expr_tree value.now))) }
-    ensures words { OnOk result (StatementHasWords (SetElement name.now (expr_tree index.now) (expr_tree value.now))) }
+    requires { MayFollow emitter.now (SetElement name.now (expr_tree index.now) (expr_tree value.now)) out.old }
+    ensures { OnOk result
+        (Puts emitter.now (SetElement name.now (expr_tree index.now) (expr_tree value.now)) out.old out.new) }
 {
     put_set_element(emitter, out, name, index, value, Mode::Public)
 }
@@ -117,15 +102,9 @@ fn put_statement<'a>(
     out: &mut CodeBuf,
     s: &'a Stmt,
 ) -> Result<bool, Memory>
-    requires typed { TypedStatement (context_of emitter.now.decls) Public (statement_of s.now) }
-    requires low { LowStatement (statement_of s.now) }
-    requires room { length out.old.code.items
-        + 120 * statement_weight (context_of emitter.now.decls) Public (statement_of s.now) ≤ most_instructions }
-    ensures emitted { OnOk result (EmitsStatement emitter.now (statement_of s.now) out.old out.new) }
+    requires { MayFollow emitter.now (statement_of s.now) out.old }
+    ensures put { OnOk result (Puts emitter.now (statement_of s.now) out.old out.new) }
     ensures noted { IfOk result (λ noted. noted ≡ ends_noted emitter.now.decls (statement_of s.now)) }
-    ensures short { OnOk result (length out.new.code.items ≤ length out.old.code.items
-        + 120 * statement_weight (context_of emitter.now.decls) Public (statement_of s.now)) }
-    ensures words { OnOk result (StatementHasWords (statement_of s.now)) }
 {
     match s {
         Stmt::Set(name, value) => {
@@ -155,16 +134,9 @@ fn put_if<'a>(
     first: &'a [Stmt],
     second: &'a [Stmt],
 ) -> Result<bool, Memory>
-    requires typed { TypedStatement (context_of emitter.now.decls) Public (choice_of guard.now first.now second.now) }
-    requires low { LowStatement (choice_of guard.now first.now second.now) }
-    requires room { length out.old.code.items + 120 * statement_weight (context_of emitter.now.decls) Public
-        (choice_of guard.now first.now second.now) ≤ most_instructions }
-    ensures emitted { OnOk result (EmitsStatement emitter.now
-        (choice_of guard.now first.now second.now) out.old out.new) }
+    requires { MayFollow emitter.now (choice_of guard.now first.now second.now) out.old }
+    ensures put { OnOk result (Puts emitter.now (choice_of guard.now first.now second.now) out.old out.new) }
     ensures noted { IfOk result (λ noted. noted ≡ ends_noted emitter.now.decls (choice_of guard.now first.now second.now)) }
-    ensures short { OnOk result (length out.new.code.items ≤ length out.old.code.items + 120
-        * statement_weight (context_of emitter.now.decls) Public (choice_of guard.now first.now second.now)) }
-    ensures words { OnOk result (StatementHasWords (choice_of guard.now first.now second.now)) }
 {
     match label_of_guard(emitter, guard) {
         Label::Secret => {
@@ -188,15 +160,8 @@ fn put_choice<'a>(
     second: &'a [Stmt],
 ) -> Result<(), Memory>
     requires public { label_of_test (context_of emitter.now.decls) (test_of guard.now) ≡ Public }
-    requires typed { TypedStatement (context_of emitter.now.decls) Public (choice_of guard.now first.now second.now) }
-    requires low { LowStatement (choice_of guard.now first.now second.now) }
-    requires room { length out.old.code.items + 120 * statement_weight (context_of emitter.now.decls) Public
-        (choice_of guard.now first.now second.now) ≤ most_instructions }
-    ensures emitted { OnOk result (EmitsStatement emitter.now
-        (choice_of guard.now first.now second.now) out.old out.new) }
-    ensures short { OnOk result (length out.new.code.items ≤ length out.old.code.items + 120
-        * statement_weight (context_of emitter.now.decls) Public (choice_of guard.now first.now second.now)) }
-    ensures words { OnOk result (StatementHasWords (choice_of guard.now first.now second.now)) }
+    requires fits { MayFollow emitter.now (choice_of guard.now first.now second.now) out.old }
+    ensures { OnOk result (Puts emitter.now (choice_of guard.now first.now second.now) out.old out.new) }
 {
     put_guard(emitter, out, guard, 0, Mode::Public)?;
     let branch = out.next_place();
@@ -224,17 +189,8 @@ fn put_loop<'a>(
     guard: &'a Guard,
     body: &'a [Stmt],
 ) -> Result<(), Memory>
-    requires typed { TypedStatement (context_of emitter.now.decls) Public
-        (Loop (test_of guard.now) (block_of_all body.now)) }
-    requires low { LowStatement (Loop (test_of guard.now) (block_of_all body.now)) }
-    requires room { length out.old.code.items + 120
-        * statement_weight (context_of emitter.now.decls) Public (Loop (test_of guard.now) (block_of_all body.now))
-        ≤ most_instructions }
-    ensures emitted { OnOk result
-        (EmitsStatement emitter.now (Loop (test_of guard.now) (block_of_all body.now)) out.old out.new) }
-    ensures short { OnOk result (length out.new.code.items ≤ length out.old.code.items + 120
-        * statement_weight (context_of emitter.now.decls) Public (Loop (test_of guard.now) (block_of_all body.now))) }
-    ensures words { OnOk result (StatementHasWords (Loop (test_of guard.now) (block_of_all body.now))) }
+    requires { MayFollow emitter.now (Loop (test_of guard.now) (block_of_all body.now)) out.old }
+    ensures { OnOk result (Puts emitter.now (Loop (test_of guard.now) (block_of_all body.now)) out.old out.new) }
 {
     let inner = known_inside(emitter, guard, body)?;
     let behind = known_behind(emitter, body)?;
