@@ -13,11 +13,11 @@ use Rattle.bus_arbiter.specs.Laws.{AllFit, traces_on}
 use Rattle.bus_arbiter.specs.Transfers.{IsJoined, Transfer}
 use Rattle.bus_arbiter.proofs.JoinedLaws.{agreeing, one-list}
 use Rattle.call_replies.specs.declared.replies.Verdict.TheVariants.{Shared}
-use Rattle.call_laws.specs.Bus.{all_halted, with_halts}
+use Rattle.machine_verbs.specs.Bus.{all_halted, with_halts}
 use Rattle.call_steps.specs.Questions.{WhatIsJoined}
 use Rattle.call_laws.specs.BusAgrees.{BusAgrees}
 use Rattle.call_steps.specs.Runs.{HaltOf}
-use Rattle.call_laws.specs.Sharing.{AreHalts}
+use Rattle.machine_verbs.specs.Sharing.{AreHalts}
 use Rattle.call_steps.specs.Showing.{bus_seen}
 use Rattle.call_steps.specs.Work.{Asks, Ending, Ends, Holds, IsVerdict, MayEnd, Work, said_at}
 use Rattle.call_laws.proofs.Behind.{behind-it}

@@ -29,7 +29,7 @@ use Rattle.src_tree.proofs.StoreLengths.{length-meaning}
 use Rattle.flow_types.specs.Wants.{declared_want, declared_wants}
 use Rattle.flow_types.proofs.Distinct.{wants_are_variables}
 use Rattle.stretches.specs.Standing.{greatest_costs}
-use Rattle.code_gen.specs.Implements.{by_name}
+use Rattle.compiled_objects.specs.Implements.{by_name}
 use Rattle.code_gen.proofs.WantedInputs.{planned-inputs_wanted}
 use Rattle.code_gen.proofs.WantsInOrder.{planned-wants_permuted, wants-differ, words_named, store-named}
 use Rattle.call_steps.specs.Compiled.{IsCompiledTo, plan_for}

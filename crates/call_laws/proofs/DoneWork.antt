@@ -12,7 +12,7 @@ use Rattle.trace_patterns.specs.declared.reasons.Reason.{Reason}
 use Rattle.bus_arbiter.specs.declared.errors.BusError.{BusError}
 use Rattle.call_replies.specs.declared.replies.Verdict.{Verdict}
 use Rattle.call_replies.specs.declared.replies.Verdict.TheVariants.{BadInput, BadSource, Malformed}
-use Rattle.call_laws.specs.Bus.{on_plan}
+use Rattle.machine_verbs.specs.Bus.{on_plan}
 use Rattle.call_laws.specs.Headline.{HoldsInputs}
 use Rattle.call_steps.specs.Objects.{SpellsObject, object_limit}
 use Rattle.call_laws.specs.Promises.{IsDone, IsSafe}

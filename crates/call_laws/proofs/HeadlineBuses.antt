@@ -19,11 +19,11 @@ use Rattle.bus_arbiter.proofs.PlannedRuns.{none-overlaps, plan-none, plan-takes}
 use Rattle.call_replies.specs.declared.replies.Verdict.TheVariants.{Shared}
 use Rattle.command_words.specs.Pairs.{Pair, in_pairs, pairs_of}
 use Rattle.call_laws.specs.Verbs.{works}
-use Rattle.call_laws.specs.Bus.{Read, all_halted, bus_work, none_read, on_plan, one_read, shares_bus, with_cores}
+use Rattle.machine_verbs.specs.Bus.{Read, all_halted, bus_work, none_read, on_plan, one_read, shares_bus, with_cores}
 use Rattle.command_words.specs.CommandLines.{Part, StandTogether, Text}
 use Rattle.call_laws.specs.Headline.{AllHeld, HoldsInputs, HoldsObject, Shares, done_status}
 use Rattle.call_laws.specs.Promises.{IsDone}
-use Rattle.call_laws.specs.Sharing.{AreRead}
+use Rattle.machine_verbs.specs.Sharing.{AreRead}
 use Rattle.call_steps.specs.Showing.{bus_seen, core_lines, transfer_lines}
 use Rattle.call_steps.specs.Steps.{with_inputs}
 use Rattle.call_replies.specs.Texts.{verdict_status}
@@ -35,7 +35,7 @@ use Rattle.command_words.proofs.BusWords.{bus-given}
 use Rattle.call_laws.proofs.DoneWork.{checked-on, given-on, planned-on}
 use Rattle.call_laws.proofs.HeadlineCalls.{Called, asked, done-ending, ended-by}
 use Rattle.call_laws.proofs.HeadlineVerbs.{safe-object}
-use Rattle.call_laws.proofs.Pairing.{none-read, one-read}
+use Rattle.machine_verbs.proofs.Pairing.{none-read, one-read}
 
 -- ---- what was read
 

@@ -28,13 +28,13 @@ use Rattle.call_laws.specs.Infer.{infer_work}
 use Rattle.command_words.specs.Options.{number_given}
 use Rattle.call_laws.specs.Promises.{IsDone, IsSafe}
 use Rattle.call_steps.specs.Questions.{WhenItHalts}
-use Rattle.call_laws.specs.Run.{on_halt, run_work}
+use Rattle.machine_verbs.specs.Run.{on_halt, run_work}
 use Rattle.call_steps.specs.Runs.{HaltOf, run_outputs}
 use Rattle.call_steps.specs.Showing.{Seen, events_alone, nothing_seen}
 use Rattle.call_steps.specs.Sources.{Spells, SpellsTyped}
 use Rattle.call_steps.specs.Steps.{with_accepted, with_inputs, with_variables}
 use Rattle.call_replies.specs.Texts.{verdict_status}
-use Rattle.call_laws.specs.Trace.{shows_on, trace_work}
+use Rattle.machine_verbs.specs.Trace.{shows_on, trace_work}
 use Rattle.command_words.specs.VerbLines.{Call}
 use Rattle.call_laws.specs.Verbs.{work_of, works}
 use Rattle.call_steps.specs.Work.{Asks, Ending, Ends, Holds, IsVerdict, MayEnd, Work, Writes, files_at, said_at}
@@ -47,7 +47,7 @@ use Rattle.call_laws.proofs.DoneWork.{checked-on, given-on, programmed-on}
 use Rattle.call_laws.proofs.HeadlineCalls.{Called, asked, asked-by, done-ending, ended, ended-by}
 use Rattle.call_laws.proofs.Inferring.{inferred-of, written-there}
 use Rattle.command_words.proofs.VerbWords.{compile-given, evaluate-given, run-given, trace-given, words-ask}
-use Rattle.call_laws.proofs.Watches.{text-alone}
+use Rattle.machine_verbs.proofs.Watches.{text-alone}
 
 -- ---- objects
 

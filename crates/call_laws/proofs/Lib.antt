@@ -1,8 +1,6 @@
 pub mod Promised
 pub mod Lines
 pub mod Safe
-pub mod Watches
-pub mod PathsShown
 pub mod OnTarget
 pub mod CompiledRuns
 pub mod CompiledTexts
@@ -15,8 +13,6 @@ pub mod SampleText
 pub mod SampleProgram
 pub mod SampleMade
 pub mod SampleFiles
-pub mod PutLines
-pub mod Pairing
 pub mod BusAgreeing
 pub mod OneAnswers
 pub mod OneSourceFault

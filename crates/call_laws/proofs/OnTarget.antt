@@ -5,7 +5,7 @@ use Rattle.src_tree.specs.Limits.{IsWithinLimits}
 use Rattle.src_tree.specs.Trees.{Source}
 use Rattle.scratch_alloc.specs.Plans.{IsSoundPlan}
 use Rattle.scratch_alloc.proofs.StandardPlan.{standard_sound}
-use Rattle.code_gen.proofs.FastPlans.{fast-sound}
+use Rattle.compiled_objects.proofs.FastPlans.{fast-sound}
 use Rattle.call_steps.specs.declared.targets.Target.{Target}
 use Rattle.call_steps.specs.Compiled.{HasRoom, IsCompiledTo, plan_for}
 

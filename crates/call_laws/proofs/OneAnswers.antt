@@ -34,7 +34,7 @@ use Rattle.call_replies.specs.declared.replies.Done.TheVariants.{Assembled, Disa
 use Rattle.call_replies.specs.declared.replies.Verdict.{Verdict}
 use Rattle.call_replies.specs.declared.replies.Verdict.TheVariants.{Accepted, Traced, BadAssembly, BadInput, Malformed, NoNotes}
 use Rattle.command_words.specs.Pairs.{Pair}
-use Rattle.call_laws.specs.Bus.{Read, bus_work, none_read, on_plan, one_read, shares_bus, with_cores, with_halts}
+use Rattle.machine_verbs.specs.Bus.{Read, bus_work, none_read, on_plan, one_read, shares_bus, with_cores, with_halts}
 use Rattle.call_laws.specs.Assemble.{assemble_work}
 use Rattle.call_laws.specs.Check.{check_work}
 use Rattle.call_laws.specs.Disassemble.{disassemble_work}
@@ -46,16 +46,16 @@ use Rattle.lt_assembler.specs.Canonical.{canonical}
 use Rattle.note_infer.specs.declared.faults.InferError.{InferError}
 use Rattle.call_steps.specs.Objects.{SpellsObject, object_limit}
 use Rattle.call_steps.specs.Questions.{Answer, AreInputs, IsRight, Question, Shows, WhatIsInferred, WhatIsJoined, WhenItHalts, WhetherAccepted, WhichAssembly, WhichInputs, WhichObject}
-use Rattle.call_laws.specs.Run.{on_halt, run_work, runs_on}
+use Rattle.machine_verbs.specs.Run.{on_halt, run_work, runs_on}
 use Rattle.call_steps.specs.Runs.{HaltOf}
-use Rattle.call_laws.specs.Sharing.{AreRead}
+use Rattle.machine_verbs.specs.Sharing.{AreRead}
 use Rattle.call_steps.specs.Showing.{Seen, events_alone, nothing_seen}
 use Rattle.call_steps.specs.Steps.{input_limit, on_judged, or_ends, with_accepted, with_assembly, with_inputs, with_object}
-use Rattle.call_laws.specs.Trace.{shows_on, trace_work, traces_on}
+use Rattle.machine_verbs.specs.Trace.{shows_on, trace_work, traces_on}
 use Rattle.call_steps.specs.Work.{Answered, Asks, Ended, Ending, Ends, Found, Holds, IsTooLong, IsUnread, IsVerdict, IsWritten, MayEnd, Missing, Reads, TooLong, Work, Writes, Wrote, files_at, said_at}
 use Rattle.call_laws.proofs.BusAgreeing.{one-halt}
 use Rattle.call_laws.proofs.InferredOnce.{inference-once}
-use Rattle.call_laws.proofs.Pairing.{none-read, one-read}
+use Rattle.machine_verbs.proofs.Pairing.{none-read, one-read}
 use Rattle.call_steps.proofs.Saying.{traces-agree}
 
 -- ---- the files after an ending, if the contents of files are known

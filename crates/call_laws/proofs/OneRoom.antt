@@ -19,8 +19,8 @@ use Rattle.resident_alloc.specs.declared.wants.Want.{Want}
 use Rattle.resident_alloc.specs.Residents.{wants_of}
 use Rattle.resident_alloc.specs.ResidentPlan.{in_oblivious_banks, resident_banks, resident_blocks}
 use Rattle.resident_alloc.specs.ResidentPlan as resident
-use Rattle.code_gen.specs.declared.compiling.CompileError.{CompileError}
-use Rattle.code_gen.specs.declared.compiling.CompileError.TheVariants as room
+use Rattle.compiled_objects.specs.declared.errors.CompileError.{CompileError}
+use Rattle.compiled_objects.specs.declared.errors.CompileError.TheVariants as room
 use Rattle.call_replies.specs.declared.source_faults.SourceFault.{SourceFault}
 use Rattle.call_steps.specs.Compiled.{HasRoom, LacksRoom, room_fault}
 

@@ -44,7 +44,7 @@ use Rattle.block_cache_gen.proofs.HomesOfFrames.{further-low}
 use Rattle.block_cache_gen.proofs.RangesOfCode.{HomeFits, HomesFit}
 use Rattle.block_cache_gen.proofs.ServedBlocks.{served-home, first-all}
 use Rattle.block_cache_gen.proofs.Settled.{get_or-homes_at, length-homes_at, place-length}
-use Rattle.code_gen.specs.Compiles.{LatenciesFit, latency_for}
+use Rattle.compiled_objects.specs.Compiles.{LatenciesFit, latency_for}
 use Rattle.code_gen.specs.Emitted.{padding_of}
 use Rattle.code_gen.specs.Made.{banks_from, IsMadeOf}
 use Rattle.code_gen.specs.Programs.{program_code, program_notes}

@@ -10,7 +10,7 @@ use Rattle.bus_arbiter.specs.Refusals.{refusal}
 use Rattle.bus_arbiter.specs.Shares.{share_of}
 use Rattle.bus_arbiter.proofs.TransferLists.{in-cases, in-none}
 use Rattle.command_words.specs.Pairs.{Pair}
-use Rattle.call_laws.specs.Bus.{Read, bus_work, none_read, on_plan, one_read, shares_bus, with_cores}
+use Rattle.machine_verbs.specs.Bus.{Read, bus_work, none_read, on_plan, one_read, shares_bus, with_cores}
 use Rattle.call_steps.specs.Outside.{Outside, Explains}
 use Rattle.call_laws.specs.Promises.{Answers, NoAnswer, AnswersSo, CallLaws, IsDone, IsSafe, PromisesFollow}
 use Rattle.call_laws.proofs.DoneWork.{checked-on, given-on, planned-on}

@@ -28,8 +28,8 @@ use Rattle.src_tree.specs.declared.faults.TypeError.TheVariants as program
 use Rattle.src_tree.proofs.Faultless.{faultless}
 use Rattle.src_tree.proofs.FirstFaults.{caused}
 use Rattle.flow_types.specs.Refusals.{ExplainsProgram}
-use Rattle.code_gen.specs.declared.compiling.CompileError.{CompileError}
-use Rattle.code_gen.specs.declared.compiling.CompileError.TheVariants as room
+use Rattle.compiled_objects.specs.declared.errors.CompileError.{CompileError}
+use Rattle.compiled_objects.specs.declared.errors.CompileError.TheVariants as room
 use Rattle.call_replies.specs.declared.replies.Done.TheVariants.{Compiled}
 use Rattle.call_replies.specs.declared.replies.Verdict.{Verdict}
 use Rattle.call_replies.specs.declared.source_faults.SourceFault.{SourceFault}

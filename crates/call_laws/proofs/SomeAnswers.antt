@@ -55,7 +55,7 @@ use Rattle.call_replies.specs.declared.source_faults.SourceFault.{SourceFault}
 use Rattle.call_steps.specs.declared.targets.Target.{Target}
 use Rattle.call_laws.specs.Assemble.{assemble_work}
 use Rattle.command_words.specs.Pairs.{Pair}
-use Rattle.call_laws.specs.Bus.{Read, bus_work, none_read, on_plan, one_read, shares_bus, with_cores, with_halts}
+use Rattle.machine_verbs.specs.Bus.{Read, bus_work, none_read, on_plan, one_read, shares_bus, with_cores, with_halts}
 use Rattle.call_laws.specs.Check.{check_work}
 use Rattle.call_steps.specs.Compile.{compile_work, on_compiled}
 use Rattle.call_laws.specs.Disassemble.{disassemble_work}
@@ -67,17 +67,17 @@ use Rattle.call_steps.specs.Objects.{object_limit}
 use Rattle.call_laws.specs.OneAnswer.{AreBytes, HasSomeAnswer, SomeAnswer}
 use Rattle.call_laws.specs.Promises.{AnswersSo}
 use Rattle.call_steps.specs.Questions.{Answer, AreInputs, IsRight, Question, WhatIsInferred, WhatIsJoined, WhatIsLeft, WhatIsMade, WhatIsShown, WhenItHalts, WhetherAccepted, WhichAssembly, WhichCompiled, WhichInputs, WhichObject, WhichSource}
-use Rattle.call_laws.specs.Run.{on_halt, run_work, runs_on}
+use Rattle.machine_verbs.specs.Run.{on_halt, run_work, runs_on}
 use Rattle.call_steps.specs.Runs.{HaltOf}
 use Rattle.call_laws.specs.Sample.{on_sampled, sample_work, samples_on}
-use Rattle.call_laws.specs.Sharing.{AreRead}
+use Rattle.machine_verbs.specs.Sharing.{AreRead}
 use Rattle.call_steps.specs.Showing.{Seen, events_alone, nothing_seen}
 use Rattle.call_steps.specs.Sources.{SpellsTyped, source_limit}
 use Rattle.call_steps.specs.Steps.{input_limit, on_judged, or_ends, text_limit, with_accepted, with_assembly, with_inputs, with_object, with_source, with_variables}
-use Rattle.call_laws.specs.Trace.{shows_on, trace_work, traces_on}
+use Rattle.machine_verbs.specs.Trace.{shows_on, trace_work, traces_on}
 use Rattle.call_steps.specs.Work as work
 use Rattle.call_steps.specs.Work.{Asks, Ended, Ending, Ends, Found, Holds, IsTooLong, IsUnread, IsVerdict, IsWritten, MayEnd, Missing, Reads, TooLong, Work, Writes, Wrote, files_at, said_at}
-use Rattle.call_laws.proofs.Pairing.{none-read, one-read}
+use Rattle.machine_verbs.proofs.Pairing.{none-read, one-read}
 use Rattle.call_laws.proofs.SomeObjects.{compiled-some, program-fits}
 use Rattle.call_laws.proofs.SomePaths.{shown-in-trees-some, shown-some}
 use Rattle.call_laws.proofs.SomeSamples.{made-some}

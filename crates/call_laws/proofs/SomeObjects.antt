@@ -21,11 +21,11 @@ use Rattle.held_registers.proofs.Sound.{nothing-sound}
 use Rattle.block_cache_gen.specs.ProgramWords.{BlockHasWords, StatementHasWords}
 use Rattle.block_cache_gen.specs.TreeWords.{HasWords, TestHasWords}
 use Rattle.block_cache_gen.proofs.RangesOfCode.{small-word}
-use Rattle.code_gen.specs.Compiles.{LatenciesFit}
-use Rattle.code_gen.specs.FastLayout.{fast_plan}
-use Rattle.code_gen.specs.HeldNumbers.{held_for}
+use Rattle.compiled_objects.specs.Compiles.{LatenciesFit}
+use Rattle.compiled_objects.specs.FastLayout.{fast_plan}
+use Rattle.compiled_objects.specs.HeldNumbers.{held_for}
 use Rattle.code_gen.proofs.Assembled.{made-promises}
-use Rattle.code_gen.proofs.FastPlans.{fast-sound, fast-secret_slot}
+use Rattle.compiled_objects.proofs.FastPlans.{fast-sound, fast-secret_slot}
 use Rattle.code_gen.proofs.HeldNumbers.{held_for-sound, places-fit}
 use Rattle.code_gen.proofs.FoldedPlans.{folded-implements, folded-laid, folded-short, folded-sound}
 use Rattle.call_replies.specs.declared.source_faults.SourceFault.{SourceFault}

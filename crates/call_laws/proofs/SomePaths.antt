@@ -24,7 +24,7 @@ use Rattle.call_steps.specs.PathsShown.{paths_of_bank}
 use Rattle.call_steps.specs.RecursivePaths.{IsShownInTrees}
 use Rattle.call_steps.specs.Seeds.{seeded_words}
 use Rattle.call_steps.specs.Showing.{Seen, run_seen}
-use Rattle.call_laws.proofs.PathsShown.{leaf-count, paths-with_paths, rec-leaf-count, shows-with_paths}
+use Rattle.machine_verbs.proofs.PathsShown.{leaf-count, paths-with_paths, rec-leaf-count, shows-with_paths}
 
 module _ (o : Parts) (range : IsInRange o) (inputs : List (List ℤ)) (fits : FitsObject o inputs) (cycles seed : ℕ) where
   abbrev height : ℕ → ℕ

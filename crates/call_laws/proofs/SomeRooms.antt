@@ -8,8 +8,8 @@ use Rattle.bank_alloc.specs.Fits.{ScalarsFit, scalars_of}
 use Rattle.bank_alloc.specs.Places.{bank_count, blocks_needed, places_of}
 use Rattle.resident_alloc.specs.ResidentPlan.{resident_banks, resident_blocks}
 use Rattle.resident_alloc.specs.Residents.{wants_of}
-use Rattle.code_gen.specs.declared.compiling.CompileError.{CompileError}
-use Rattle.code_gen.specs.declared.compiling.CompileError.TheVariants.{BankFull, TooManyScalars}
+use Rattle.compiled_objects.specs.declared.errors.CompileError.{CompileError}
+use Rattle.compiled_objects.specs.declared.errors.CompileError.TheVariants.{BankFull, TooManyScalars}
 use Rattle.call_replies.specs.declared.source_faults.SourceFault.{SourceFault}
 use Rattle.call_replies.specs.declared.source_faults.SourceFault.TheVariants as fault
 use Rattle.call_steps.specs.declared.targets.Target.{Target}

@@ -5,7 +5,7 @@ use Rattle.gr_outside.specs.Shelf.{Files}
 use Rattle.lt_isa.specs.Object.{Parts}
 use Rattle.bus_arbiter.specs.Laws.{AllAgree, AllFit, AllOblivious}
 use Rattle.bus_arbiter.specs.declared.shares.Share.{Share}
-use Rattle.call_laws.specs.Bus.{shares_bus}
+use Rattle.machine_verbs.specs.Bus.{shares_bus}
 use Rattle.call_steps.specs.Work.{Ending, Holds, MayEnd, said_at}
 
 -- Two calls have read oblivious objects, each with inputs, and the inputs of each object agree: both calls print the

@@ -13,8 +13,8 @@ use Rattle.src_tree.specs.Meaning.{Store, meaning}
 use Rattle.src_tree.specs.Trees.{Source}
 use Rattle.src_tree.specs.Typing.{IsTyped}
 use Rattle.flow_types.specs.Wants.{declared_wants}
-use Rattle.code_gen.specs.AgreeingStores.{AgreeOnPublic}
-use Rattle.code_gen.specs.Implements.{HasSymbols, by_name}
+use Rattle.compiled_objects.specs.AgreeingStores.{AgreeOnPublic}
+use Rattle.compiled_objects.specs.Implements.{HasSymbols, by_name}
 use Rattle.call_steps.specs.Compiled.{IsCompiledTo}
 use Rattle.call_steps.specs.Objects.{SpellsObject}
 

@@ -27,7 +27,7 @@ use Rattle.src_tree.specs.Meaning.{Store, meaning}
 use Rattle.src_tree.specs.Trees.{Source}
 use Rattle.src_tree.specs.declared.trees.Decl.{Decl}
 use Rattle.command_words.specs.Pairs.{Pair, pairs_of}
-use Rattle.call_laws.specs.Bus.{all_halted}
+use Rattle.machine_verbs.specs.Bus.{all_halted}
 use Rattle.call_laws.specs.Calls.{MeansCalls}
 use Rattle.command_words.specs.CommandLines.{Part, StandTogether, Text, has_flag, value_in}
 use Rattle.call_laws.specs.CompiledRuns.{RunsAsMeant}
@@ -36,7 +36,7 @@ use Rattle.call_steps.specs.Objects.{SpellsObject}
 use Rattle.command_words.specs.Options.{number_given}
 use Rattle.call_laws.specs.Promises.{IsDone}
 use Rattle.call_steps.specs.Runs.{HaltOf, run_outputs}
-use Rattle.call_laws.specs.Sharing.{AreHalts}
+use Rattle.machine_verbs.specs.Sharing.{AreHalts}
 use Rattle.call_steps.specs.Showing.{core_lines, transfer_lines}
 use Rattle.command_words.specs.VerbLines.{Call, WritesFile}
 use Rattle.command_words.specs.declared.verbs.Verb.{Verb}

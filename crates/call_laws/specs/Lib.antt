@@ -1,15 +1,11 @@
 pub mod Promises
 pub mod OneAnswer
 pub mod Check
-pub mod Trace
-pub mod Run
 pub mod Assemble
 pub mod Disassemble
 pub mod Evaluate
 pub mod Infer
 pub mod Sample
-pub mod Bus
-pub mod Sharing
 pub mod BusAgrees
 pub mod SampleTree
 pub mod CompiledRuns
@@ -18,4 +14,3 @@ pub mod Calls
 pub mod Verbs
 pub mod Headline
 pub mod HeadlineFollows
-pub mod Watched

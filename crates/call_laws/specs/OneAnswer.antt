@@ -22,7 +22,7 @@ use Rattle.src_tree.specs.Trees.{Source}
 use Rattle.call_replies.specs.declared.source_faults.SourceFault.{SourceFault}
 use Rattle.call_laws.specs.Assemble.{assemble_work}
 use Rattle.command_words.specs.Pairs.{Pair}
-use Rattle.call_laws.specs.Bus.{bus_work}
+use Rattle.machine_verbs.specs.Bus.{bus_work}
 use Rattle.call_laws.specs.Check.{check_work}
 use Rattle.call_steps.specs.Compile.{compile_work}
 use Rattle.call_laws.specs.Disassemble.{disassemble_work}
@@ -31,11 +31,11 @@ use Rattle.call_laws.specs.Infer.{infer_work}
 use Rattle.call_steps.specs.Objects.{SpellsObject, object_limit}
 use Rattle.call_laws.specs.Promises.{Answers, IsDone}
 use Rattle.call_steps.specs.Questions.{AreInputs, IsRight, WhichSource}
-use Rattle.call_laws.specs.Run.{run_work}
+use Rattle.machine_verbs.specs.Run.{run_work}
 use Rattle.call_laws.specs.Sample.{sample_work}
 use Rattle.call_steps.specs.Steps.{input_limit}
 use Rattle.call_replies.specs.Texts.{Said, usage}
-use Rattle.call_laws.specs.Trace.{trace_work}
+use Rattle.machine_verbs.specs.Trace.{trace_work}
 use Rattle.call_steps.specs.Work.{Work}
 
 -- for any files, two answers for a work are equal

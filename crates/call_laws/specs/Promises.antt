@@ -15,7 +15,7 @@ use Rattle.call_replies.specs.Texts.{Said, usage, unread, unwritten, no_memory}
 use Rattle.call_steps.specs.Objects.{SpellsObject}
 use Rattle.call_steps.specs.Sources.{SpellsTyped}
 use Rattle.command_words.specs.Pairs.{Pair}
-use Rattle.call_laws.specs.Bus.{bus_work}
+use Rattle.machine_verbs.specs.Bus.{bus_work}
 use Rattle.call_laws.specs.Calls.{MeansItsCalls}
 use Rattle.call_steps.specs.Compile.{compile_work}
 use Rattle.call_steps.specs.Compiled.{IsCompiledTo}

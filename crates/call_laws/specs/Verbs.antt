@@ -3,14 +3,14 @@ use Rattle.std.specs.Prelude.{ℕ, List, Option}
 use Rattle.command_words.specs.Verbs.{Works, asked_work}
 use Rattle.call_steps.specs.Work.{Work}
 use Rattle.call_laws.specs.Check.{check_work}
-use Rattle.call_laws.specs.Trace.{trace_work}
-use Rattle.call_laws.specs.Run.{run_work}
+use Rattle.machine_verbs.specs.Trace.{trace_work}
+use Rattle.machine_verbs.specs.Run.{run_work}
 use Rattle.call_laws.specs.Assemble.{assemble_work}
 use Rattle.call_laws.specs.Disassemble.{disassemble_work}
 use Rattle.call_laws.specs.Evaluate.{evaluate_work}
 use Rattle.call_steps.specs.Compile.{compile_on}
 use Rattle.call_laws.specs.Sample.{sample_work}
-use Rattle.call_laws.specs.Bus.{bus_work}
+use Rattle.machine_verbs.specs.Bus.{bus_work}
 use Rattle.call_laws.specs.Infer.{infer_work}
 
 abbrev pub works : Works Work

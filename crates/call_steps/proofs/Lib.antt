@@ -7,5 +7,4 @@ pub mod Answering
 pub mod Saying
 mod FirstSourceFaults
 pub mod Beginnings
-pub mod Compiling
 pub mod EventCounts

@@ -11,12 +11,12 @@ use Rattle.resident_alloc.specs.ResidentFits.{ResidentsFit}
 use Rattle.source_folding.specs.Folded.{folded_source}
 use Rattle.held_registers.specs.declared.registers.Held.{Held}
 use Rattle.block_cache_gen.specs.StoredWords.{stored_words}
-use Rattle.code_gen.specs.Compiles.{ExplainsResidents, ExplainsRoom, IsFor, stores_by}
-use Rattle.code_gen.specs.FastLayout.{fast_plan}
-use Rattle.code_gen.specs.HeldNumbers as code
-use Rattle.code_gen.specs.Implements.{Implements}
-use Rattle.code_gen.specs.declared.compiling.CompileError.{CompileError}
-use Rattle.code_gen.specs.declared.compiling.CompileError.TheVariants as room
+use Rattle.compiled_objects.specs.Compiles.{ExplainsResidents, ExplainsRoom, IsFor, stores_by}
+use Rattle.compiled_objects.specs.FastLayout.{fast_plan}
+use Rattle.compiled_objects.specs.HeldNumbers as code
+use Rattle.compiled_objects.specs.Implements.{Implements}
+use Rattle.compiled_objects.specs.declared.errors.CompileError.{CompileError}
+use Rattle.compiled_objects.specs.declared.errors.CompileError.TheVariants as room
 use Rattle.call_replies.specs.declared.source_faults.SourceFault.{SourceFault}
 use Rattle.call_replies.specs.declared.source_faults.SourceFault.TheVariants as fault
 use Rattle.call_steps.specs.declared.targets.Target.{Target}

@@ -10,7 +10,6 @@
 //! it.
 #![tactic(auto)]
 
-pub mod compiled_object;
 pub mod count_watch;
 pub mod given;
 pub mod oblivious;

@@ -1,9 +1,7 @@
 ghost use Rattle.std.specs.Prelude.{◌≡◌};
-ghost use Rattle.call_steps.specs.Compiled.{room_fault};
 ghost use Rattle.call_steps.specs.Sources.{shown_call_fault, piece_fault, program_fault, text_fault, token_fault};
 
 use call_replies::source_faults::SourceFault;
-use code_gen::CompileError;
 use flow_types::TypeError;
 use src_lexer::LexError;
 use src_parser::{ParseError, TextError};
@@ -72,16 +70,5 @@ pub(crate) fn program_fault(fault: TypeError) -> Option<SourceFault>
         TypeError::LoopInSecret(n) => Some(SourceFault::Loop(n)),
         TypeError::Limit(which, n) => Some(SourceFault::Limit(which, n)),
         TypeError::Memory => None,
-    }
-}
-
-/// What lacks room as it is shown; want of memory is none.
-pub(crate) fn room_fault(fault: CompileError) -> Option<SourceFault>
-    ensures { result ≡ room_fault fault }
-{
-    match fault {
-        CompileError::TooManyScalars(label) => Some(SourceFault::Scalars(label)),
-        CompileError::BankFull(bank) => Some(SourceFault::BankFull(bank)),
-        CompileError::Memory => None,
     }
 }

@@ -15,8 +15,8 @@ use Rattle.bank_alloc.specs.Layout.{IsLaidOut}
 use Rattle.src_tree.proofs.VariableNumbers.{number-of_declared}
 use Rattle.scratch_alloc.specs.Plans.{Plan, IsSoundPlan, no_decl}
 use Rattle.block_cache_gen.specs.Settings.{setting_for}
-use Rattle.code_gen.specs.AgreeingStores.{AgreeOnPublic}
-use Rattle.code_gen.specs.Implements.{by_name}
+use Rattle.compiled_objects.specs.AgreeingStores.{AgreeOnPublic}
+use Rattle.compiled_objects.specs.Implements.{by_name}
 use Rattle.code_gen.proofs.ByName.{IsVariable, setting-of, symbols-variables, inputs-fit}
 
 some-is : (s t : Symbol) → ◌≡◌ {A = Option Symbol} (Some s) (Some t) → s ≡ t

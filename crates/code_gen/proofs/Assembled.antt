@@ -31,9 +31,9 @@ use Rattle.block_cache_gen.specs.Settings.{IsFrame, plan_of, setting_for, settin
 use Rattle.block_cache_gen.specs.StoredWords.{stored_words}
 use Rattle.block_cache_gen.proofs.Settled.{IsSettingOf}
 use Rattle.block_cache_gen.proofs.SingleHomes.{oblivious-single}
-use Rattle.code_gen.specs.Compiles.{IsFor, LatenciesFit, latency_for, stores_by}
+use Rattle.compiled_objects.specs.Compiles.{IsFor, LatenciesFit, latency_for, stores_by}
 use Rattle.code_gen.specs.Emitted.{padding_of}
-use Rattle.code_gen.specs.Implements.{Implements}
+use Rattle.compiled_objects.specs.Implements.{Implements}
 use Rattle.code_gen.specs.Made.{banks_from, IsMadeOf}
 use Rattle.code_gen.specs.Programs.{program_code, program_notes}
 use Rattle.code_gen.proofs.AcceptedPrograms.{laid-accepts}

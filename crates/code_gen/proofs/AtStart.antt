@@ -11,7 +11,7 @@ use Rattle.scalar_ranges.proofs.Coming.{nothing-within}
 use Rattle.scalar_ranges.proofs.Counts.{after-count, forgotten-count, inside-count}
 use Rattle.scalar_ranges.proofs.PublicOnly.{nothing-public}
 use Rattle.block_cache_gen.specs.Homes.{Setting}
-use Rattle.code_gen.specs.Programs.{at_start}
+use Rattle.compiled_objects.specs.Compiles.{at_start}
 
 pub start-public : (f : Setting) → AreOfPublic f.decls (at_start f).ranges
 start-public f = by f.reduces

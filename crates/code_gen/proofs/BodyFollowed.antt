@@ -13,7 +13,8 @@ use Rattle.src_tree.specs.Meaning.{run_of_block}
 use Rattle.block_cache_gen.specs.Homes.{Setting}
 use Rattle.code_gen.specs.Follows.{Follows}
 use Rattle.code_gen.specs.Statements.{Padding, block_code}
-use Rattle.code_gen.specs.Programs.{at_start, beginning, ending, program_code}
+use Rattle.code_gen.specs.Programs.{beginning, ending, program_code}
+use Rattle.compiled_objects.specs.Compiles.{at_start}
 use Rattle.code_gen.proofs.AtStart.{start-public}
 use Rattle.code_gen.proofs.Followed.{PartsFollow, block-follows}
 

@@ -29,7 +29,7 @@ use Rattle.block_cache_gen.specs.Settings.{home_at, setting_for}
 use Rattle.block_cache_gen.specs.StandsFor.{FitsHomes}
 use Rattle.held_registers.proofs.Sound.{nothing-sound}
 use Rattle.block_cache_gen.proofs.Settled.{IsSettingOf, width, bank-count, bank-blocks, home-at, named-below, homes-apart, place-length}
-use Rattle.code_gen.specs.Implements.{HasSymbols, by_name}
+use Rattle.compiled_objects.specs.Implements.{HasSymbols, by_name}
 use Rattle.code_gen.proofs.Started.{BanksHold}
 use Rattle.code_gen.proofs.Implementing.{NamesWords}
 

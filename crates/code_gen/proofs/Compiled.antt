@@ -16,9 +16,10 @@ use Rattle.block_cache_gen.specs.HeldCodes.{HasSecretSlot}
 use Rattle.scalar_ranges.specs.Ranges.{AreOfPublic, Ranges}
 use Rattle.block_cache_gen.specs.Homes.{Setting, ranged}
 use Rattle.block_cache_gen.proofs.Settled.{IsSettingOf, has-homes}
-use Rattle.code_gen.specs.Implements.{Implements}
+use Rattle.compiled_objects.specs.Implements.{Implements}
 use Rattle.code_gen.specs.Statements.{Padding, block_code}
-use Rattle.code_gen.specs.Programs.{at_start, beginning, program_code}
+use Rattle.code_gen.specs.Programs.{beginning, program_code}
+use Rattle.compiled_objects.specs.Compiles.{at_start}
 use Rattle.code_gen.specs.Follows.{Follows}
 use Rattle.code_gen.proofs.Implementing.{implements}
 use Rattle.code_gen.proofs.ByName.{names-words}

@@ -18,7 +18,7 @@ use Rattle.source_folding.specs.Folded.{folded, folded_test, folded_statement, f
 use Rattle.source_folding.specs.Numbers.{BlockNumbersFit}
 use Rattle.source_folding.proofs.FoldedTrees.{Made, AsBefore, Computed, Swapped, Shifted, SwappedShift, Masked, is-made, folded-label}
 use Rattle.source_folding.proofs.FoldedPrograms.{folded-means, folded-weighs}
-use Rattle.code_gen.specs.Implements.{Implements}
+use Rattle.compiled_objects.specs.Implements.{Implements}
 
 or-swapped : (a b : Bool) → (a || b) ≡ (b || a)
 or-swapped true true = refl

@@ -19,7 +19,7 @@ use Rattle.held_registers.specs.Held.{held_scalars, register_of_number, scalars_
 use Rattle.held_registers.proofs.Sound.{held_scalars-sound, with_number-sound}
 use Rattle.block_cache_gen.specs.ProgramWords.{BlockHasWords, StatementHasWords}
 use Rattle.block_cache_gen.specs.TreeWords.{HasWords, TestHasWords}
-use Rattle.code_gen.specs.HeldNumbers.{held_for, reducer_at, with_block, with_place, with_places, with_statement, with_test, with_tree}
+use Rattle.compiled_objects.specs.HeldNumbers.{held_for, reducer_at, with_block, with_place, with_places, with_statement, with_test, with_tree}
 
 -- sound, and the zeros are among them
 record SoundSome (decls : List Decl) (held : List Held) : Type 0 where

@@ -37,10 +37,11 @@ use Rattle.block_cache_gen.specs.HeldCodes.{held_beginning, held_ending, HasSecr
 use Rattle.block_cache_gen.specs.Homes.{Setting, HasHomes}
 use Rattle.block_cache_gen.specs.ServedBlocks.{first_blocks}
 use Rattle.block_cache_gen.specs.StandsFor.{StandsFor, FitsHomes}
-use Rattle.code_gen.specs.Implements.{Implements, HasSymbols, by_name}
+use Rattle.compiled_objects.specs.Implements.{Implements, HasSymbols, by_name}
 use Rattle.code_gen.specs.Statements.{Padding, block_code}
 use Rattle.block_cache_gen.proofs.HeldBeginning.{unheld, runs-held_beginning}
-use Rattle.code_gen.specs.Programs.{at_start, load_code, pin_store, each_slot, beginning, ending, program_code}
+use Rattle.code_gen.specs.Programs.{load_code, pin_store, each_slot, beginning, ending, program_code}
+use Rattle.compiled_objects.specs.Compiles.{at_start}
 use Rattle.code_gen.specs.Follows.{Follows, Finishes, Lasts}
 use Rattle.code_gen.proofs.AtStart.{start-within}
 use Rattle.code_gen.proofs.Loads.{LoadedTo, loads_shown, comes-slots}

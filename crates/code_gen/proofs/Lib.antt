@@ -38,4 +38,3 @@ pub mod AgreeingStores
 pub mod WantedInputs
 pub mod WantsInOrder
 pub mod FoldedPlans
-pub mod FastPlans

@@ -28,7 +28,8 @@ use Rattle.block_cache_gen.proofs.Ranged.{homes-ranged, block-ranged}
 use Rattle.block_cache_gen.proofs.NamesOfHomes.{array-used, array-served}
 use Rattle.block_cache_gen.proofs.ServedBlocks.{first-pinned, first-served}
 use Rattle.code_gen.specs.Statements.{Padding, block_code, block_notes, block_ends_noted}
-use Rattle.code_gen.specs.Programs.{at_start, load_code, pin_store, each_slot, beginning, ending, program_code, program_notes}
+use Rattle.code_gen.specs.Programs.{load_code, pin_store, each_slot, beginning, ending, program_code, program_notes}
+use Rattle.compiled_objects.specs.Compiles.{at_start}
 use Rattle.block_cache_gen.specs.PublicIndexes.{BlockHasPublicIndexes}
 use Rattle.gr_word.specs.declared.variables.Label.{Label}
 use Rattle.src_tree.specs.Labels.{secret_label}

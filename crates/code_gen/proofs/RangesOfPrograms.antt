@@ -26,7 +26,8 @@ use Rattle.block_cache_gen.proofs.RangesOfCode.{HomeFits, HomesFit, CodeFits, No
 use Rattle.block_cache_gen.proofs.RangesOfNotes.{NotesRise, PinsLow, rise-fits}
 use Rattle.code_gen.specs.Emitted.{padding_of}
 use Rattle.code_gen.specs.Statements.{block_code}
-use Rattle.code_gen.specs.Programs.{at_start, load_code, pin_store, each_slot, beginning, ending, program_code, program_notes}
+use Rattle.code_gen.specs.Programs.{load_code, pin_store, each_slot, beginning, ending, program_code, program_notes}
+use Rattle.compiled_objects.specs.Compiles.{at_start}
 use Rattle.code_gen.proofs.PassedStatements.{block-noted}
 use Rattle.code_gen.proofs.RangedParts.{rise-ranged}
 use Rattle.code_gen.proofs.AcceptedPrograms.{begins-guarded}

@@ -19,7 +19,7 @@ use Rattle.branch_padding.specs.Effects.{effect_of}
 use Rattle.branch_padding.proofs.EffectsMean.{secret_choice-means}
 use Rattle.branch_padding.proofs.EffectRuns.{choice-changes}
 use Rattle.code_gen.specs.Emitted.{padding_of}
-use Rattle.code_gen.specs.Implements.{Implements}
+use Rattle.compiled_objects.specs.Implements.{Implements}
 use Rattle.code_gen.specs.Programs.{program_code}
 use Rattle.code_gen.proofs.RangedParts.{assigns-ranged}
 use Rattle.code_gen.proofs.Following.{Changes, follows-change}

@@ -27,7 +27,8 @@ use Rattle.branch_padding.specs.Cycles.{slack_of}
 use Rattle.branch_padding.specs.Stores.{added_up, choice_stores, stores_of, stores_of_each}
 use Rattle.branch_padding.proofs.StoredRows.{added-first, public_choice-stores}
 use Rattle.code_gen.specs.Statements.{opposite, second_code, places_over, choice_code, loop_code, choice_by, statement_code, block_code}
-use Rattle.code_gen.specs.Programs.{at_start, is_some_scalar, scalars_among, load_code, pin_store, each_slot, beginning, ending, program_code}
+use Rattle.code_gen.specs.Programs.{load_code, pin_store, each_slot, beginning, ending, program_code}
+use Rattle.compiled_objects.specs.Compiles.{at_start, is_some_scalar, scalars_among}
 use Rattle.code_gen.specs.Emitted.{padding_of}
 
 module _ (once : Bool) where

@@ -17,7 +17,7 @@ use Rattle.bank_alloc.specs.declared.places.Place.{Place}
 use Rattle.bank_alloc.specs.Layout.{IsLaidOut, placed_symbol}
 use Rattle.scratch_alloc.specs.Plans.{Plan, IsSoundPlan, no_decl, no_place}
 use Rattle.block_cache_gen.specs.Settings.{setting_for}
-use Rattle.code_gen.specs.Implements.{by_name}
+use Rattle.compiled_objects.specs.Implements.{by_name}
 use Rattle.code_gen.proofs.ByName.{IsVariable, setting-of, symbols-variables}
 
 -- what is made of each symbol's want

@@ -1,12 +1,7 @@
-pub mod FastLayout
-pub mod Compiles
-pub mod Implements
 pub mod Statements
 pub mod Programs
 pub mod Follows
 pub mod Emitted
 pub mod Made
-pub mod HeldNumbers
-pub mod AgreeingStores
 pub use Rattle.src_tree.specs.Meaning
 pub use Rattle.bank_alloc.specs.Layout

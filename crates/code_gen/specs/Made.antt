@@ -7,14 +7,10 @@ use Rattle.lt_isa.specs.Object.{Parts}
 use Rattle.lt_isa.specs.Ranges.{IsInRange}
 use Rattle.src_tree.specs.Trees.{Source}
 use Rattle.bank_alloc.specs.Layout.{IsLaidOut}
-use Rattle.bank_alloc.specs.declared.places.PlaceError.{PlaceError}
-use Rattle.bank_alloc.specs.declared.places.PlaceError.TheVariants as place
 use Rattle.scratch_alloc.specs.Plans.{Plan}
 use Rattle.block_cache_gen.specs.Homes.{Held}
 use Rattle.block_cache_gen.specs.Settings.{setting_for}
-use Rattle.code_gen.specs.declared.compiling.CompileError.{CompileError}
-use Rattle.code_gen.specs.declared.compiling.CompileError.TheVariants.{TooManyScalars, BankFull, Memory}
-use Rattle.code_gen.specs.Compiles.{latency_for}
+use Rattle.compiled_objects.specs.Compiles.{latency_for}
 use Rattle.code_gen.specs.Emitted.{padding_of}
 use Rattle.code_gen.specs.Programs.{program_code, program_notes}
 
@@ -33,9 +29,3 @@ pub record IsMadeOf (p : Source) (plan : Plan) (given : Profile) (reduces : Bool
   pub banks : o.banks ≡ banks_from l 0 plan.blocks
   pub code : o.code ≡ program_code (setting_for p plan given reduces held) padding_of p.body
   pub notes : o.notes ≡ program_notes (setting_for p plan given reduces held) padding_of p.body
-
--- the error of a lack of room
-abbrev pub error_of : PlaceError → CompileError
-error_of (place.TooManyScalars label) = TooManyScalars label
-error_of (place.BankFull bank) = BankFull bank
-error_of place.Memory = Memory

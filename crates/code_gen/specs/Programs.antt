@@ -1,20 +1,19 @@
 -- For the proofs and for private clauses only: the code of a whole program. It begins with the loads of the slots and
 -- registers that the rest relies on, and ends with the stores of the scalars that registers hold for the whole run, and
 -- of the blocks that slots hold.
-use Rattle.std.specs.Prelude.{ℕ, ◌+◌, Bool, true, false, pos, List, [], ◌∷◌, ◌++◌, if◌then◌else◌, length, count_by, Option, Some, None}
+use Rattle.std.specs.Prelude.{ℕ, ◌+◌, pos, List, [], ◌∷◌, ◌++◌, length, Option, Some, None}
 use Rattle.lt_isa.specs.declared.symbols.Note.{Note}
 use Rattle.lt_isa.specs.declared.instructions.Instr.{Instr}
 use Rattle.lt_isa.specs.declared.instructions.Instr.TheVariants.{Li, Ldw, Stw, Ldb, Stb, Halt}
 use Rattle.src_tree.specs.Trees.{Block}
 use Rattle.scratch_alloc.specs.declared.plans.Pin.{Pin}
-use Rattle.held_registers.specs.declared.registers.Held.TheVariants.{SecretZero, Number, Scalar}
-use Rattle.scalar_ranges.specs.Known.{nothing_known}
-use Rattle.block_cache_gen.specs.Homes.{Held, Setting, ranged}
+use Rattle.block_cache_gen.specs.Homes.{Held, Setting}
 use Rattle.block_cache_gen.specs.HeldCodes.{begin_code, end_code, held_beginning, held_ending}
 use Rattle.block_cache_gen.specs.ServedBlocks.{first_blocks}
 use Rattle.code_gen.specs.declared.programs.Phase.{Phase}
 use Rattle.code_gen.specs.declared.programs.Phase.TheVariants.{Beginning, Ending}
 use Rattle.code_gen.specs.Statements.{Padding, block_code, block_notes}
+use Rattle.compiled_objects.specs.Compiles.{at_start}
 
 -- the load of a block to a slot, if there is a block
 abbrev pub load_code : (slot : ℕ) → Option Pin → List Instr
@@ -51,20 +50,6 @@ beginning f = each_slot load_code 0 (first_blocks f) ++ held_beginning f
 
 abbrev pub ending : Setting → List Instr
 ending f = held_ending f ++ (each_slot pin_store 0 f.pins ++ Halt ∷ [])
-
--- how many scalars registers hold for the whole run: as many words are stored at the end
-abbrev pub is_some_scalar : Held → Bool
-is_some_scalar SecretZero = false
-is_some_scalar (Number z) = false
-is_some_scalar (Scalar n) = true
-
-abbrev pub scalars_among : List Held → ℕ
-scalars_among held = count_by is_some_scalar held
-
--- At the beginning nothing is known of any scalar. Ranges serve the steps that replace operations by numbers: if there
--- are none, no list of ranges is kept.
-abbrev pub at_start : Setting → Setting
-at_start f = ranged f (if f.reduces then nothing_known (length f.decls) else [])
 
 abbrev pub program_code : Setting → Padding → Block → List Instr
 program_code f padded body = beginning f ++ (block_code (at_start f) padded body ++ ending f)

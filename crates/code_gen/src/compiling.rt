@@ -13,11 +13,11 @@ ghost use Rattle.block_cache_gen.specs.ProgramWords.{BlockHasWords};
 ghost use Rattle.scratch_alloc.specs.Plans.{IsSoundPlan, plan_from, standard_plan};
 ghost use Rattle.block_cache_gen.specs.Settings.{IsFrame, plan_of, setting_of};
 ghost use Rattle.block_cache_gen.specs.StoredWords.{stored_words};
-ghost use Rattle.code_gen.specs.Compiles.{ExplainsResidents, ExplainsRoom, IsFor, LatenciesFit, stores_in, stores_with_residents};
+ghost use Rattle.compiled_objects.specs.Compiles.{ExplainsResidents, ExplainsRoom, IsFor, LatenciesFit, stores_in, stores_with_residents};
 ghost use Rattle.code_gen.specs.Emitted.{padding_of};
-ghost use Rattle.code_gen.specs.FastLayout.{HasFastLayout};
-ghost use Rattle.code_gen.specs.Implements.{Implements};
-ghost use Rattle.code_gen.specs.HeldNumbers.{held_for};
+ghost use Rattle.compiled_objects.specs.FastLayout.{HasFastLayout};
+ghost use Rattle.compiled_objects.specs.Implements.{Implements};
+ghost use Rattle.compiled_objects.specs.HeldNumbers.{held_for};
 ghost use Rattle.code_gen.specs.Made.{IsMadeOf};
 ghost use Rattle.code_gen.specs.Programs.{program_code, program_notes};
 ghost use Rattle.source_folding.specs.Folded.{folded_source};
@@ -25,45 +25,18 @@ ghost use Rattle.source_folding.specs.Numbers.{BlockNumbersFit};
 
 use crate::banks::bank_specs;
 use crate::numbers::held_for;
-use crate::plans::fast_plan;
 use crate::programs::program_code;
-use bank_alloc::{PlaceError, Places, banks, symbols};
+use bank_alloc::{Places, banks, symbols};
 use block_cache_gen::{CodeBuf, Emitter, Frame, Prepared};
+use compiled_objects::{CompileError, fast_plan};
 use flow_types::Typed;
 use gr_base::Memory;
-use gr_word::Label;
 use held_registers::Held;
 use lt_isa::{Latencies, Object, Profile};
 use scratch_alloc::{SlotPlan, slots};
 use source_folding::folded;
 use src_tree::Program;
 use std::alloc::Global;
-
-/// Why a program isn't compiled.
-#[derive(Clone, Copy, Debug, PartialEq, Eq)]
-pub enum CompileError {
-    /// More scalars of the label than a block has words.
-    TooManyScalars(Label),
-    /// The bank is the lowest that needs more blocks than it may have.
-    BankFull(u8),
-    /// Memory ran out, which says nothing of the program.
-    Memory,
-}
-
-impl From<PlaceError> for CompileError {
-    ghost use Rattle.std.specs.Prelude.{◌≡◌};
-    ghost use Rattle.code_gen.specs.Made.{error_of};
-
-    ghost from_gives = { λ lack e. e ≡ error_of lack };
-
-    fn from(lack: PlaceError) -> CompileError {
-        match lack {
-            PlaceError::TooManyScalars(label) => CompileError::TooManyScalars(label),
-            PlaceError::BankFull(bank) => CompileError::BankFull(bank),
-            PlaceError::Memory => CompileError::Memory,
-        }
-    }
-}
 
 // The object of a program whose code and notes are made.
 fn assembled(alloc: Global, f: &Frame<'_>, l: &Latencies, made: CodeBuf) -> Result<Object, Memory>

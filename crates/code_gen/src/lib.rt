@@ -2,8 +2,8 @@
 //!
 //! [`compile`] makes an object of a typed program: accepted, with the program's meaning and layout, within a size that
 //! goes by the program's weight. It rejects a program exactly if its variables lack room. [`compile_fast`] does the same
-//! for `--fast`, with the memory that [`fast_plan`] plans. [`passing_laws`]: code that is passed piece by piece is
-//! accepted.
+//! for `--fast`, with the memory that `fast_plan` plans. What these promises cite is in `compiled_objects`.
+//! [`passing_laws`]: code that is passed piece by piece is accepted.
 #![tactic(auto)]
 
 mod banks;
@@ -12,10 +12,8 @@ mod jumps;
 mod known;
 mod laws;
 mod numbers;
-pub mod plans;
 mod programs;
 mod statements;
 
-pub use compiling::{CompileError, compile, compile_fast};
+pub use compiling::{compile, compile_fast};
 pub use laws::passing_laws;
-pub use plans::fast_plan;

@@ -24,7 +24,7 @@ use Rattle.command_words.specs.declared.verbs.Verb.{Verb}
 use Rattle.command_words.specs.declared.verbs.Verb.TheVariants.{Assemble, Bus, Check, Compile, Disassemble, Evaluate, Infer, Run, Sample, Trace}
 use Rattle.call_steps.specs.declared.targets.Target.{Target}
 use Rattle.call_laws.specs.Assemble.{assemble_work}
-use Rattle.call_laws.specs.Bus.{Read, bus_work, none_read, on_plan, one_read, shares_bus, with_cores, with_halts}
+use Rattle.machine_verbs.specs.Bus.{Read, bus_work, none_read, on_plan, one_read, shares_bus, with_cores, with_halts}
 use Rattle.call_steps.specs.CallsFollow.{AsksOn, CallsOf, Follows, Makes, NoCalls, ReadFails, ReadsOn, StopsHere, TriesWrite, WritesLast}
 use Rattle.call_laws.specs.Check.{check_work}
 use Rattle.call_steps.specs.Compile.{compile_work, on_compiled}
@@ -34,10 +34,10 @@ use Rattle.call_steps.specs.Happened.{AreFiles, CallsItsFiles, FailsToRead, InOr
 use Rattle.call_steps.specs.Histogram.{Made}
 use Rattle.call_laws.specs.Infer.{infer_work, on_inferred}
 use Rattle.call_steps.specs.Questions.{Answer, Question}
-use Rattle.call_laws.specs.Run.{on_halt, run_work}
+use Rattle.machine_verbs.specs.Run.{on_halt, run_work}
 use Rattle.call_laws.specs.Sample.{on_sampled, sample_work}
 use Rattle.call_steps.specs.Steps.{on_judged, or_ends, with_accepted, with_assembly, with_object, with_source, with_variables}
-use Rattle.call_laws.specs.Trace.{shows_on, trace_work}
+use Rattle.machine_verbs.specs.Trace.{shows_on, trace_work}
 use Rattle.call_laws.specs.Verbs.{work_of, works}
 use Rattle.call_steps.specs.Work.{Asks, Ends, Reads, Work, Writes}
 use Rattle.command_words.proofs.VerbWords.{words-ask}

@@ -8,7 +8,7 @@ use Rattle.src_tree.specs.Meaning.{Store, meaning}
 use Rattle.src_tree.specs.Trees.{Source}
 use Rattle.flow_types.specs.Wants.{declared_wants}
 use Rattle.bank_alloc.specs.Layout.{IsLaidOut}
-use Rattle.code_gen.specs.Implements.{by_name}
+use Rattle.compiled_objects.specs.Implements.{by_name}
 use Rattle.ghost_cli.specs.declared.sample.CountedRun.{CountedRun}
 use Rattle.ghost_cli.specs.declared.sample.SampleFile.{SampleFile}
 use Rattle.call_steps.specs.Compiled.{IsCompiledTo, plan_for}

@@ -5,13 +5,13 @@ ghost use Rattle.command_words.specs.Asks.{compile_asks, compile_named};
 ghost use Rattle.call_steps.specs.Compile.{compile_on, compile_work};
 
 use call_replies::replies::{Done, Reply};
-use call_steps::compiled_object::object_bytes;
 use call_steps::sources::find_source;
 use call_steps::targets::Target;
 use call_steps::verbs::{Maker, NewFile, Request};
 use clap::ArgMatches;
 use command_words::options::{block_log_given, flag_given, value};
 use command_words::windows::{window_given, windowed};
+use compile_step::object_bytes;
 use gr_base::Memory;
 use gr_outside::Shelf;
 use std::alloc::Global;

@@ -8,7 +8,7 @@
 //! crate `call_steps`.
 //!
 //! To add a verb, add its words to the crate `command_words`, write its tree in a file of its own in
-//! `call_laws/specs/`, its work in a file of its own in `src/` here (or in `machine_verbs`, if it runs the machine),
+//! `call_laws/specs/`, its work in a file of its own in `src/` here (if it runs the machine, both in `machine_verbs`),
 //! and in `proofs/` a proof that the work is that of the tree. Then add it to the tables in
 //! `call_laws/specs/Verbs.antt` and `src/top.rt`. A new question is added to `call_steps/specs/Questions.antt`, a new
 //! line to the crate `call_replies`. No other verb's files change.

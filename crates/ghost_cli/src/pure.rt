@@ -14,11 +14,11 @@ ghost use Rattle.call_steps.specs.Work.{Work};
 ghost use Rattle.call_replies.specs.declared.replies.Verdict.TheVariants.{BadInput};
 
 use call_replies::replies::Reply;
-use call_steps::compiled_object::object_bytes;
 use call_steps::oblivious::SeededOram;
 use call_steps::reading::{checked, inputs_in, object_in};
 use call_steps::sources::source_in;
 use call_steps::targets::Target;
+use compile_step::object_bytes;
 use gr_word::Inputs;
 use lt_checker::Accepted;
 use machine_verbs::run::{Ran, run_to_end};

@@ -15,7 +15,6 @@ use crate::histogram::{
     SAMPLE_BLOCK_LOG, SAMPLE_CYCLES, sample_inputs, sample_program, sum_of_counts,
 };
 use call_replies::replies::{Done, Figures, Reply, Verdict};
-use call_steps::compiled_object::object_of;
 use call_steps::count_watch::CountWatch;
 use call_steps::oblivious::{SeededOram, load_seeded};
 use call_steps::reading::checked;
@@ -24,6 +23,7 @@ use call_steps::verbs::{Maker, NewFile, Request};
 use clap::ArgMatches;
 use command_words::options::{flag_given, items_given, seed_given, value};
 use command_words::windows::{ALWAYS_OPEN, windowed};
+use compile_step::object_of;
 use flow_types::Typed;
 use gr_base::Memory;
 use gr_outside::Shelf;

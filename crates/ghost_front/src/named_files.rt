@@ -5,8 +5,8 @@ use crate::tools::Tool;
 use clap::ArgMatches;
 use command_words::verbs::{matches_of, verb_named};
 use explain_words::Kind;
-use ghost_tools::words::{self, COUNT, DIFF, EXPAND, LAYOUT, LISTING, PROFILE, TEST};
 use gr_base::Memory;
+use object_tools::words::{self, COUNT, DIFF, EXPAND, LAYOUT, LISTING, PROFILE, TEST};
 use std::alloc::Global;
 
 /// The names under which the verbs' rows have files to read, with the kind of each file.

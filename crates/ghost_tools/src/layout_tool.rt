@@ -1,17 +1,17 @@
 ghost use Rattle.std.specs.Prelude.{◌≡◌, ◌≢◌};
 
-use crate::reasons::{Reasons, slots_of};
-use crate::reports::{Report, print};
-use crate::source_texts::SourceText;
-use crate::sources::{ReadSource, read_source, source_asked};
-use crate::variables::{label_text, push_name};
-use crate::words::LAYOUT;
 use call_replies::replies::Reply;
-use call_steps::compiled_object::object_of;
+use compile_step::object_of;
 use gr_base::Memory;
 use gr_outside::{Shelf, Sink};
 use gr_word::{Name, Shape};
 use lt_isa::{BankKind, Object, Symbol, bank_kind};
+use object_tools::reasons::{Reasons, slots_of};
+use object_tools::reports::{Report, print};
+use object_tools::source_texts::SourceText;
+use object_tools::sources::{ReadSource, read_source, source_asked};
+use object_tools::variables::{label_text, push_name};
+use object_tools::words::LAYOUT;
 use std::alloc::Global;
 
 /// The tool `layout SRC [--fast] [--block-log W] [--window P:O:C] [--procs]`: compiles a program in memory, and prints in

@@ -1,15 +1,15 @@
 ghost use Rattle.std.specs.Prelude.{◌≡◌, ◌≢◌};
 
-use crate::code_rows::rows_of_code;
-use crate::listing_lines::listing_text;
 use crate::profile_tool::other_form;
-use crate::reports::{Report, print};
-use crate::sources::{read_source, source_asked};
-use crate::words::LISTING;
 use call_replies::replies::Reply;
-use call_steps::compiled_object::object_of;
+use compile_step::object_of;
 use gr_base::Memory;
 use gr_outside::{Shelf, Sink};
+use object_tools::code_rows::rows_of_code;
+use object_tools::listing_lines::listing_text;
+use object_tools::reports::{Report, print};
+use object_tools::sources::{read_source, source_asked};
+use object_tools::words::LISTING;
 use std::alloc::Global;
 
 /// The tool `listing SRC [--fast] [--block-log W] [--window P:O:C] [--procs]`: compiles a program in memory, and prints its

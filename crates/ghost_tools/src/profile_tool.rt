@@ -4,22 +4,22 @@ ghost use Rattle.lt_isa.specs.Start.{FitsObject, final, start_state, trace};
 ghost use Rattle.processor.specs.Ends.{EndsAs};
 ghost use Rattle.line_costs.specs.Costs.{accesses_of, CountsSteps, end_cycle, total};
 
-use crate::code_rows::{CodeRows, rows_of_code};
-use crate::profile_lines::table;
-use crate::reports::{Report, end_status, print};
-use crate::sources::{SourceWords, accepted_of, read_source, source_in_words};
-use crate::words::{PROFILE, matches_of};
 use call_replies::replies::Reply;
-use call_steps::compiled_object::object_of;
 use call_steps::oblivious::{SeededOram, load_seeded};
 use call_steps::reading::find_inputs;
 use clap::ArgMatches;
 use command_words::options::{number_given, value};
+use compile_step::object_of;
 use gr_base::Memory;
 use gr_outside::{Shelf, Sink};
 use gr_word::Inputs;
 use line_costs::{Costs, Part, run_costs};
 use lt_checker::Accepted;
+use object_tools::code_rows::{CodeRows, rows_of_code};
+use object_tools::profile_lines::table;
+use object_tools::reports::{Report, end_status, print};
+use object_tools::sources::{SourceWords, accepted_of, read_source, source_in_words};
+use object_tools::words::{PROFILE, matches_of};
 use std::alloc::Global;
 
 /// The source, the name of the file of inputs, and the number of cycles.

@@ -1,17 +1,17 @@
 ghost use Rattle.std.specs.Prelude.{◌≡◌, ◌≢◌, ◌≤◌, IfOk, IfSome};
 ghost use Rattle.lt_isa.specs.Ranges.{ProfileFits};
-ghost use Rattle.ghost_tools.specs.Statuses.{status_of};
+ghost use Rattle.object_tools.specs.Statuses.{status_of};
 
-use crate::reports::{Report, print};
-use crate::sources::{SourceWords, accepted_of, read_file, read_source, source_in_words};
-use crate::suites::{Subject, Tried, try_cases};
-use crate::words::{TEST, matches_of};
 use call_replies::replies::{InputFault, Reply, Verdict};
-use call_steps::compiled_object::object_of;
 use clap::ArgMatches;
 use command_words::options::{number_given, value};
+use compile_step::object_of;
 use gr_base::Memory;
 use gr_outside::{Shelf, Sink};
+use object_tools::reports::{Report, print};
+use object_tools::sources::{SourceWords, accepted_of, read_file, read_source, source_in_words};
+use object_tools::suites::{Subject, Tried, try_cases};
+use object_tools::words::{TEST, matches_of};
 use std::alloc::Global;
 
 /// The most bytes of a file of cases.

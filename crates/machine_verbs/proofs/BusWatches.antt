@@ -9,8 +9,8 @@ use Rattle.processor.specs.Watching.{TellsMore}
 use Rattle.run_data.specs.TraceText.{event_line, event_text}
 use Rattle.bus_arbiter.specs.Transfers.{Transfer}
 use Rattle.call_steps.specs.Showing.{halt_text, transfer_line, transfer_lines}
-use Rattle.call_laws.specs.Watched.{Grows, HoldsLines, HoldsTransfers, TearsTransfer}
-use Rattle.call_laws.proofs.PutLines.{cut_at_next, line_held}
+use Rattle.machine_verbs.specs.Watched.{Grows, HoldsLines, HoldsTransfers, TearsTransfer}
+use Rattle.machine_verbs.proofs.PutLines.{cut_at_next, line_held}
 
 -- ---- no line is empty
 

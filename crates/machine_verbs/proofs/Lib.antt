@@ -1,3 +1,7 @@
+pub mod Watches
+pub mod PathsShown
+pub mod PutLines
+pub mod Pairing
 pub mod Tracing
 pub mod LevelLines
 pub mod Shown

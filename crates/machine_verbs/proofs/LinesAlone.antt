@@ -11,7 +11,7 @@ use Rattle.call_steps.specs.Outside.{PutsSaid}
 use Rattle.call_steps.specs.Runs.{HaltOf}
 use Rattle.call_steps.specs.Showing.{shown_lines}
 use Rattle.call_replies.specs.Texts.{comes_to}
-use Rattle.call_laws.specs.Watched.{PutsShown, PutsTrace}
+use Rattle.machine_verbs.specs.Watched.{PutsShown, PutsTrace}
 use Rattle.call_steps.proofs.Saying.{halts-or-not}
 
 longs : (halted : Bool) → 1 ≤ length (comes_to (Traced halted)).text

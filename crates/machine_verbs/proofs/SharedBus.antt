@@ -22,12 +22,12 @@ use Rattle.rand_chacha.specs.ChaCha.{ChaCha}
 use Rattle.call_replies.specs.declared.replies.Verdict.TheVariants.{Shared}
 use Rattle.call_steps.specs.Beginning.{BankBegins, HasBegun}
 use Rattle.command_words.specs.Pairs.{Pair}
-use Rattle.call_laws.specs.Bus.{Read, all_halted, bus_work, shares_bus, with_halts}
+use Rattle.machine_verbs.specs.Bus.{Read, all_halted, bus_work, shares_bus, with_halts}
 use Rattle.call_steps.specs.Outside.{Explains, outside}
 use Rattle.call_steps.specs.Progress.{HasLeft}
 use Rattle.call_steps.specs.Questions.{WhatIsJoined, WhenItHalts}
 use Rattle.call_steps.specs.Runs.{HaltOf}
-use Rattle.call_laws.specs.Sharing.{AllBegin, AreHalts, PutsHalts, PutsJoined, PutsShared, halts_of}
+use Rattle.machine_verbs.specs.Sharing.{AllBegin, AreHalts, PutsHalts, PutsJoined, PutsShared, halts_of}
 use Rattle.call_steps.specs.Showing.{bus_seen, core_line, core_lines, halt_text, transfer_lines}
 use Rattle.call_steps.specs.Work.{Asks, Ends, Work}
 use Rattle.call_steps.proofs.Answering.{judged-said}

@@ -29,7 +29,7 @@ use Rattle.call_steps.specs.Levels.{AllStand, MayEndOn, MayRun, OfOram}
 use Rattle.call_steps.specs.Paths.{IsShown, OfBank, words_drawn}
 use Rattle.call_steps.specs.Seeds.{seeded_words, stream_from}
 use Rattle.call_steps.proofs.Beginnings.{each-begins}
-use Rattle.call_laws.proofs.PathsShown.{leaf-count, paths-with_paths, shows-with_paths}
+use Rattle.machine_verbs.proofs.PathsShown.{leaf-count, paths-with_paths, shows-with_paths}
 
 -- the leaves that a bank shows for accesses to blocks
 abbrev pub shows : Oram ChaCha → List ℕ → List Leaves

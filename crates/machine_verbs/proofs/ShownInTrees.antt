@@ -22,7 +22,7 @@ use Rattle.call_steps.specs.RecursivePaths.{IsShownInTrees, OfRecursiveBank}
 use Rattle.call_steps.specs.Showing.{run_seen}
 use Rattle.call_steps.specs.Seeds.{seeded_words, stream_from}
 use Rattle.call_steps.proofs.Beginnings.{each-begins}
-use Rattle.call_laws.proofs.PathsShown.{paths-with_paths, rec-leaf-count, shows-with_paths}
+use Rattle.machine_verbs.proofs.PathsShown.{paths-with_paths, rec-leaf-count, shows-with_paths}
 
 -- the leaves that a bank shows for accesses to blocks
 abbrev pub shows : Recursive ChaCha → List ℕ → List Leaves

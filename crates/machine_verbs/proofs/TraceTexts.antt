@@ -12,11 +12,11 @@ use Rattle.call_replies.specs.declared.replies.Verdict.TheVariants.{Traced}
 use Rattle.call_steps.specs.Outside.{PutsSaid}
 use Rattle.call_steps.specs.Showing.{Seen, events_alone, run_seen}
 use Rattle.machine_verbs.specs.TracedText.{IsTextOfTrace}
-use Rattle.call_laws.specs.Watched.{PutsTrace, kept}
+use Rattle.machine_verbs.specs.Watched.{PutsTrace, kept}
 use Rattle.call_steps.specs.Work.{IsVerdict, said_at, Ends}
-use Rattle.call_laws.proofs.Watches.{kept-events, text-alone, kept-all}
+use Rattle.machine_verbs.proofs.Watches.{kept-events, text-alone, kept-all}
 use Rattle.call_steps.specs.Questions.{IsRight, WhatIsShown, WhenItHalts}
-use Rattle.call_laws.specs.Trace.{traces_on, shows_on}
+use Rattle.machine_verbs.specs.Trace.{traces_on, shows_on}
 use Rattle.call_steps.specs.Reached.{ExplainsRest}
 use Rattle.call_steps.proofs.Progressing.{leads-on}
 use Rattle.call_steps.proofs.Answering.{judged-said}

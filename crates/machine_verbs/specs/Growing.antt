@@ -3,7 +3,7 @@
 use Rattle.std.specs.Prelude.{List, [], ◌++◌, ℕ, Option, Some, None}
 use Rattle.std.proofs.Common.{refl, sym, append_assoc}
 use Rattle.std.proofs.lemmas.List.{append-nil}
-use Rattle.call_laws.specs.Watched.{Grows}
+use Rattle.machine_verbs.specs.Watched.{Grows}
 
 pub Grows-itself : (held : Option (List ℕ)) → Grows held held
 Grows-itself None = tt

@@ -1,3 +1,8 @@
+pub mod Trace
+pub mod Run
+pub mod Bus
+pub mod Sharing
+pub mod Watched
 pub mod TracedInTrees
 pub mod TracedText
 pub mod Growing

@@ -6,7 +6,7 @@ use Rattle.lt_isa.specs.Start.{trace}
 use Rattle.processor.specs.Watching.{WatcherTold, events_in}
 use Rattle.call_steps.specs.RecursivePaths.{IsShownInTrees}
 use Rattle.call_steps.specs.Showing.{run_seen}
-use Rattle.call_laws.specs.Watched.{PutsTrace, kept}
+use Rattle.machine_verbs.specs.Watched.{PutsTrace, kept}
 
 pub record TracedInTrees (before after : SinkSeen) (o : Parts) (inputs : List (List ℤ)) (cycles seed : ℕ)
     (paths : Bool) (status : ℕ) : Type 0 where

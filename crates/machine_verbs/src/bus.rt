@@ -6,10 +6,10 @@ ghost use Rattle.bus_arbiter.specs.Shares.{share_of};
 ghost use Rattle.bus_arbiter.specs.Turns.{AllLeft};
 ghost use Rattle.command_words.specs.Asks.{bus_asks, bus_named, bus_named_on};
 ghost use Rattle.command_words.specs.Pairs.{pairs_of};
-ghost use Rattle.call_laws.specs.Bus.{bus_said, bus_work, none_read, with_core, with_cores};
+ghost use Rattle.machine_verbs.specs.Bus.{bus_said, bus_work, none_read, with_core, with_cores};
 ghost use Rattle.command_words.specs.Options.{texts};
 ghost use Rattle.call_steps.specs.Reached.{Finds, FindsNone, stage};
-ghost use Rattle.call_laws.specs.Sharing.{AllBegin, AreRead, PutsShared};
+ghost use Rattle.machine_verbs.specs.Sharing.{AllBegin, AreRead, PutsShared};
 ghost use Rattle.call_replies.specs.Texts.{said};
 
 use crate::bus_run::put_bus;
@@ -211,7 +211,7 @@ pub struct Cores {
 }
 
 impl Model for Cores {
-    ghost use Rattle.call_laws.specs.Bus.{Read};
+    ghost use Rattle.machine_verbs.specs.Bus.{Read};
 
     ghost Value = { Read };
 

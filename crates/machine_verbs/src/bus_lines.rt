@@ -6,7 +6,7 @@ ghost use Rattle.run_data.specs.Putting.{PutsText};
 ghost use Rattle.run_data.specs.TraceText.{event_line};
 ghost use Rattle.machine_verbs.specs.Growing.{Grows-itself, Grows-through};
 ghost use Rattle.call_steps.specs.Showing.{core_line, halt_text, transfer_line};
-ghost use Rattle.call_laws.specs.Watched.{Grows, HoldsLines, HoldsTransfers, TearsTransfer};
+ghost use Rattle.machine_verbs.specs.Watched.{Grows, HoldsLines, HoldsTransfers, TearsTransfer};
 ghost use Rattle.processor.specs.Keeping.{tells-none, tells-then};
 ghost use Rattle.processor.specs.Watching.{TellsMore};
 

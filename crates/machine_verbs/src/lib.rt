@@ -1,6 +1,6 @@
 //! The verbs that run the machine: `run`, `trace` and `bus`, over any shelf of files and any sink for text.
 //!
-//! Each is a type with the traits of `call_steps::verbs`, and does the work of its tree in `call_laws/specs`. The lines
+//! Each is a type with the traits of `call_steps::verbs`, and does the work of its tree in `specs/`. The lines
 //! of a run are printed while it runs, by the watchers [`TraceWatch`] and [`BusLines`].
 #![tactic(auto)]
 

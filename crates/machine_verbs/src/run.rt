@@ -6,7 +6,7 @@ ghost use Rattle.lt_isa.specs.Start.{FitsObject, wants_of};
 ghost use Rattle.run_data.specs.OutputText.{output_of};
 ghost use Rattle.machine_verbs.specs.Ran.{RanTo};
 ghost use Rattle.command_words.specs.Asks.{run_asks, run_named};
-ghost use Rattle.call_laws.specs.Run.{run_work};
+ghost use Rattle.machine_verbs.specs.Run.{run_work};
 
 use call_replies::replies::{Done, Reply, Verdict};
 use call_steps::given::find_given;

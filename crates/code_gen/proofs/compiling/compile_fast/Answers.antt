@@ -6,11 +6,11 @@ use Rattle.scratch_alloc.specs.Plans.{IsSoundPlan}
 use Rattle.source_folding.specs.Folded.{folded_source}
 use Rattle.source_folding.specs.Numbers.{BlockNumbersFit}
 use Rattle.source_folding.proofs.FoldedPrograms.{folded-source_typed, folded-within}
-use Rattle.code_gen.specs.FastLayout.{fast_plan}
-use Rattle.code_gen.specs.HeldNumbers.{held_for}
+use Rattle.compiled_objects.specs.FastLayout.{fast_plan}
+use Rattle.compiled_objects.specs.HeldNumbers.{held_for}
 use Rattle.code_gen.specs.Made.{IsMadeOf}
 use Rattle.code_gen.proofs.Assembled.{CompilePromises, made-promises}
-use Rattle.code_gen.proofs.FastPlans.{fast-sound, fast-secret_slot}
+use Rattle.compiled_objects.proofs.FastPlans.{fast-sound, fast-secret_slot}
 use Rattle.code_gen.proofs.HeldNumbers.{held_for-sound, places-fit}
 use Rattle.code_gen.proofs.FoldedPlans.{folded-sound, folded-implements, folded-laid, folded-short}
 use Rattle.code_gen.proofs.compiling.compile_fast.Goals as goal

@@ -8,7 +8,7 @@ use Rattle.scratch_alloc.specs.Plans.{IsSoundPlan, plan_from}
 use Rattle.source_folding.proofs.FoldedPrograms.{folded-source_typed, folded-within}
 use Rattle.block_cache_gen.specs.ProgramWords.{BlockHasWords}
 use Rattle.code_gen.proofs.FoldedPlans.{folded-sound}
-use Rattle.code_gen.specs.HeldNumbers.{held_for}
+use Rattle.compiled_objects.specs.HeldNumbers.{held_for}
 use Rattle.code_gen.proofs.HeldNumbers.{held_for-sound, places-fit}
 use Rattle.code_gen.proofs.compiling.planned_folded.Goals as goal
 

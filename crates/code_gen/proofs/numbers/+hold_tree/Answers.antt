@@ -3,7 +3,7 @@ use Rattle.std.proofs.lemmas.Int.{wraps}
 use Rattle.std.proofs.lemmas.Result.{on_ok_weaker}
 use Rattle.src_tree.specs.Trees.{expr_tree}
 use Rattle.held_registers.specs.Held.{with_number}
-use Rattle.code_gen.specs.HeldNumbers.{with_tree}
+use Rattle.compiled_objects.specs.HeldNumbers.{with_tree}
 use Rattle.code_gen.proofs.numbers.+hold_tree.Goals as goal
 
 pub returns-in-Num-clause-held : goal.returns-in-Num-clause-held

@@ -1,6 +1,6 @@
 use Rattle.std.proofs.Common.{ap, ◌∙◌}
 use Rattle.lt_isa.specs.Machine.{State}
-use Rattle.ghost_tools.proofs.Begun.{first-cycle, first-place}
+use Rattle.object_tools.proofs.Begun.{first-cycle, first-place}
 use Rattle.ghost_tools.proofs.profile_tool.costs_of_run.Goals as goal
 
 pub run_costs-requires-clause-place : goal.run_costs-requires-clause-place

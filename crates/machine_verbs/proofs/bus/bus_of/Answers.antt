@@ -8,7 +8,7 @@ use Rattle.bus_arbiter.specs.Cores.{Core}
 use Rattle.path_oram.specs.Orams.{Oram}
 use Rattle.rand_chacha.specs.ChaCha.{ChaCha}
 use Rattle.call_steps.specs.Beginning.{BankBegins, HasBegun}
-use Rattle.call_laws.specs.Sharing.{AllBegin}
+use Rattle.machine_verbs.specs.Sharing.{AllBegin}
 use Rattle.machine_verbs.proofs.SharedBus.{begin-more, fit-at, fit-count, start-cycle, start-place, take-more}
 use Rattle.machine_verbs.proofs.bus.bus_of.Goals as goal
 

@@ -1,8 +1,8 @@
 use Rattle.std.proofs.Common.{ap, subst}
 use Rattle.std.proofs.lemmas.Result.{err_from_is_err_and}
-use Rattle.call_laws.specs.Bus.{Read}
-use Rattle.call_laws.specs.Sharing.{AreRead}
-use Rattle.call_laws.proofs.Pairing.{core-found, core-off, core-unfound, core-unkept, core-unread, one-read, read-is}
+use Rattle.machine_verbs.specs.Bus.{Read}
+use Rattle.machine_verbs.specs.Sharing.{AreRead}
+use Rattle.machine_verbs.proofs.Pairing.{core-found, core-off, core-unfound, core-unkept, core-unread, one-read, read-is}
 use Rattle.machine_verbs.proofs.bus.read_core.Goals as goal
 
 pub returns-in_err-accepted-clause-stopped : goal.returns-in_err-accepted-clause-stopped

@@ -1,5 +1,5 @@
 use Rattle.std.proofs.Common.{◌+◌, ap, ◌∙◌, arith}
-use Rattle.call_laws.proofs.Pairing.{reads-last, reads-next, reads-stop}
+use Rattle.machine_verbs.proofs.Pairing.{reads-last, reads-next, reads-stop}
 use Rattle.machine_verbs.proofs.bus.read_cores.Goals as goal
 
 pub reading-preserved : goal.reading-preserved

@@ -1,7 +1,7 @@
 use Rattle.std.proofs.Common.{◌≡◌, length}
 use Rattle.call_steps.specs.Reached.{stage}
-use Rattle.call_laws.specs.Sharing.{AreRead}
-use Rattle.call_laws.proofs.Pairing.{HasRead}
+use Rattle.machine_verbs.specs.Sharing.{AreRead}
+use Rattle.machine_verbs.proofs.Pairing.{HasRead}
 use Rattle.machine_verbs.proofs.bus.read_cores.Given as goal
 
 abbrev pub invariant-reading : goal.invariant-reading

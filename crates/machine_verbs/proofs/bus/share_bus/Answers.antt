@@ -5,8 +5,8 @@ use Rattle.lt_isa.specs.Trace.{Stamped}
 use Rattle.bus_arbiter.specs.Laws.{traces_on}
 use Rattle.bus_arbiter.specs.Shares.{share_of}
 use Rattle.bus_arbiter.specs.declared.shares.Share.{Share}
-use Rattle.call_laws.specs.Bus.{Read}
-use Rattle.call_laws.specs.Sharing.{PutsShared}
+use Rattle.machine_verbs.specs.Bus.{Read}
+use Rattle.machine_verbs.specs.Sharing.{PutsShared}
 use Rattle.machine_verbs.proofs.SharedBus.{begin-count, begin-traces}
 use Rattle.machine_verbs.proofs.bus.share_bus.Goals as goal
 

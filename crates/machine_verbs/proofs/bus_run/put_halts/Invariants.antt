@@ -1,7 +1,7 @@
 use Rattle.std.proofs.Common.{◌≡◌, take}
 use Rattle.gr_base.specs.Added.{Adds}
-use Rattle.call_laws.specs.Bus.{all_halted}
-use Rattle.call_laws.specs.Sharing.{halts_of}
+use Rattle.machine_verbs.specs.Bus.{all_halted}
+use Rattle.machine_verbs.specs.Sharing.{halts_of}
 use Rattle.call_steps.specs.Showing.{core_lines}
 use Rattle.machine_verbs.proofs.bus_run.put_halts.Given as goal
 

@@ -5,7 +5,7 @@ use Rattle.bus_arbiter.specs.Transfers.{IsJoined, joined_of}
 use Rattle.bus_arbiter.proofs.CoresJoined.{cores-joined}
 use Rattle.call_steps.specs.Showing.{transfer_lines}
 use Rattle.machine_verbs.proofs.BusWatches.{transfers_cut}
-use Rattle.call_laws.proofs.PutLines.{lines_put}
+use Rattle.machine_verbs.proofs.PutLines.{lines_put}
 use Rattle.machine_verbs.proofs.bus_run.run_watched.Goals as goal
 
 pub returns-in-Ok-clause-put : goal.returns-in-Ok-clause-put

@@ -1,7 +1,7 @@
 use Rattle.std.proofs.Common.{List, []}
 use Rattle.processor.specs.Watching.{WatcherTold, run_shown}
-use Rattle.call_laws.specs.Watched.{kept}
-use Rattle.call_laws.proofs.Watches.{events_put, events_cut}
+use Rattle.machine_verbs.specs.Watched.{kept}
+use Rattle.machine_verbs.proofs.Watches.{events_put, events_cut}
 use Rattle.machine_verbs.proofs.trace.run_watched.Goals as goal
 
 pub returns-in-Ok-clause-put : goal.returns-in-Ok-clause-put

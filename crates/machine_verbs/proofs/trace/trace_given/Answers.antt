@@ -10,9 +10,9 @@ use Rattle.call_steps.specs.Levels.{AreBehind, MayRun}
 use Rattle.call_steps.specs.Reached.{ExplainsRest}
 use Rattle.call_steps.specs.RecursivePaths.{IsShownInTrees}
 use Rattle.call_steps.specs.Showing.{run_seen}
-use Rattle.call_laws.specs.Trace.{traces_on}
+use Rattle.machine_verbs.specs.Trace.{traces_on}
 use Rattle.machine_verbs.specs.TracedInTrees.{TracedInTrees}
-use Rattle.call_laws.specs.Watched.{PutsTrace, kept}
+use Rattle.machine_verbs.specs.Watched.{PutsTrace, kept}
 use Rattle.machine_verbs.proofs.TraceTexts.{traced-said}
 use Rattle.machine_verbs.proofs.Shown.{is-shown, may-run, shows}
 use Rattle.machine_verbs.proofs.trace.trace_given.Goals as goal

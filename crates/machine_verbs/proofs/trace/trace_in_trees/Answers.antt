@@ -5,7 +5,7 @@ use Rattle.lt_isa.specs.Start.{start_state}
 use Rattle.lt_isa.specs.Trace.{trace_from}
 use Rattle.processor.specs.Watching.{run_shown}
 use Rattle.processor.proofs.TellingPaths.{events_in-with_paths}
-use Rattle.call_laws.specs.Watched.{PutsTrace, kept}
+use Rattle.machine_verbs.specs.Watched.{PutsTrace, kept}
 use Rattle.machine_verbs.proofs.ShownInTrees.{is-shown, shows}
 use Rattle.machine_verbs.proofs.trace.trace_in_trees.Goals as goal
 

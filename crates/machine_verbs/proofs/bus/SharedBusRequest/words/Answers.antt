@@ -2,7 +2,7 @@ use Rattle.std.proofs.Common.{◌≡◌, ◌≤◌, length, Option, Some, None, 
 use Rattle.std.specs.Option.{option_map}
 use Rattle.command_words.specs.Asks.{bus_named}
 use Rattle.machine_verbs.specs.declared.bus.BusWords.{BusWords}
-use Rattle.call_laws.specs.Bus.{bus_work}
+use Rattle.machine_verbs.specs.Bus.{bus_work}
 use Rattle.call_steps.specs.Work.{Work}
 use Rattle.machine_verbs.proofs.bus.SharedBusRequest.words.Goals as goal
 

@@ -3,7 +3,7 @@ use Rattle.call_replies.specs.declared.replies.Reply.TheVariants.{NoMemory}
 use Rattle.call_steps.specs.CallsFollow.{StopsHere}
 use Rattle.call_steps.specs.Progress.{NoRoomYet, WorkStops}
 use Rattle.call_steps.proofs.Answering.{passed-on}
-use Rattle.call_laws.proofs.Pairing.{bus-reached, bus-stopped}
+use Rattle.machine_verbs.proofs.Pairing.{bus-reached, bus-stopped}
 use Rattle.call_steps.proofs.Progressing.{same-only}
 use Rattle.machine_verbs.proofs.SharedBus.{shared-said}
 use Rattle.machine_verbs.proofs.bus.SharedBusService.serve.Goals as goal

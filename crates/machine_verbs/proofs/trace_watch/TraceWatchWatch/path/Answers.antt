@@ -2,8 +2,8 @@ use Rattle.std.proofs.Common.{rules, ◌≡◌, ◌∷◌, [], true, false, sym,
 use Rattle.processor.specs.Watching.{APath, TellsMore}
 use Rattle.gr_base.specs.Added.{Adds}
 use Rattle.run_data.specs.PathText.{path_line}
-use Rattle.call_laws.specs.Watched.{HoldsTold}
-use Rattle.call_laws.proofs.Watches.{path_told, path_untold}
+use Rattle.machine_verbs.specs.Watched.{HoldsTold}
+use Rattle.machine_verbs.proofs.Watches.{path_told, path_untold}
 use Rattle.machine_verbs.proofs.trace_watch.TraceWatchWatch.path.Goals as goal
 
 pub returns-then-not-self-clause-heard : goal.returns-then-not-self-clause-heard

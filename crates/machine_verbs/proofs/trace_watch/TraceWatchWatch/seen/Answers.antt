@@ -2,8 +2,8 @@ use Rattle.std.proofs.Common.{rules, ◌≡◌, ◌∷◌, [], true, sym, subst}
 use Rattle.lt_isa.specs.Events.{observed_of}
 use Rattle.lt_isa.specs.Trace.{seen_at}
 use Rattle.processor.specs.Watching.{AnEvent, TellsMore}
-use Rattle.call_laws.specs.Watched.{HoldsTold}
-use Rattle.call_laws.proofs.Watches.{seen_told}
+use Rattle.machine_verbs.specs.Watched.{HoldsTold}
+use Rattle.machine_verbs.proofs.Watches.{seen_told}
 use Rattle.machine_verbs.proofs.trace_watch.TraceWatchWatch.seen.Goals as goal
 
 pub returns-in-Ok-clause-heard : goal.returns-in-Ok-clause-heard

@@ -1,8 +1,0 @@
-use Rattle.src_tree.specs.Trees.{source_of}
-use Rattle.call_steps.proofs.Compiling.{room-refuses}
-use Rattle.call_steps.proofs.compiled_object.object_of.Goals as goal
-
-pub returns-in-Err-clause-refused : goal.returns-in-Err-clause-refused
-returns-in-Err-clause-refused c =
-    room-refuses (source_of c.args.program.now) c.args.target.now c.in-Err.fault _ c.in-Err.ensures.refused
-    c.no_room.ensures

@@ -1,0 +1,5 @@
+pub mod FastLayout
+pub mod Compiles
+pub mod Implements
+pub mod HeldNumbers
+pub mod AgreeingStores

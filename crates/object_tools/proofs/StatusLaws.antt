@@ -1,0 +1,21 @@
+-- What the statuses of the tools say follows from what their results say.
+use Rattle.std.proofs.Common.{List, ap}
+use Rattle.std.specs.List.{slice_get}
+use Rattle.lt_isa.specs.Trace.{Stamped}
+use Rattle.processor.specs.declared.ends.End.TheVariants as end
+use Rattle.processor.specs.declared.ends.End.{End}
+use Rattle.object_tools.specs.Comparing.{Compares, Ends}
+use Rattle.object_tools.specs.Statuses.{SaysHalted, SaysOfBoth, SaysOfOne, SaysOther, SaysSpent, RunHalted, RunSpent, comparison_status, end_status}
+use Rattle.object_tools.specs.declared.comparing.Comparison.{Comparison}
+use Rattle.object_tools.specs.declared.comparing.Comparison.TheVariants.{Equal, Differ}
+
+pub says-of-both : (first second : List Stamped) (comparison : Comparison) → Compares first second comparison
+    → SaysOfBoth first second (comparison_status comparison)
+says-of-both first second (Equal events (end.Halted at)) equal = SaysHalted equal.same (at, equal.ends)
+says-of-both first second (Equal events end.Spent) equal = SaysSpent equal.same equal.ends
+says-of-both first second (Differ events one other) differ =
+    SaysOther (λ e. differ.0.differ (ap (λ l. slice_get l events) e))
+
+pub says-of-one : (events : List Stamped) (end : End) → Ends events end → SaysOfOne events (end_status end)
+says-of-one events (end.Halted at) ends = RunHalted (at, ends)
+says-of-one events end.Spent ends = RunSpent ends

@@ -1,0 +1,229 @@
+//! The cases of a program, tried one after another.
+
+ghost use Rattle.std.specs.Prelude.{◌≡◌, ◌≤◌, IfOk};
+ghost use Rattle.gr_word.specs.Fitting.{FitsWants};
+ghost use Rattle.lt_isa.specs.Ranges.{IsInRange};
+ghost use Rattle.lt_isa.specs.Start.{FitsObject};
+ghost use Rattle.flow_types.specs.Wants.{declared_wants};
+
+use crate::case_problems::{Problem, saying};
+use crate::cases::Case;
+use crate::comparing::Comparison;
+use crate::expectations::check_expected;
+use crate::runs::{RunWords, compare_runs, values_meant, words_left};
+use crate::variables::{number_of, words_of};
+use flow_types::Typed;
+use gr_base::Memory;
+use gr_word::{Inputs, Label};
+use lt_checker::Accepted;
+use lt_isa::Symbol;
+use src_tree::Decl;
+use std::alloc::Global;
+
+/// A program and its accepted object, with the number of cycles of a run.
+#[derive(Clone, Copy)]
+pub struct Subject<'a> {
+    pub program: &'a Typed,
+    pub accepted: &'a Accepted,
+    pub cycles: u32,
+}
+
+/// The first case with some public inputs: its line, itself, and the words that it gave the object's symbols.
+#[derive(Drop)]
+struct First {
+    line: usize,
+    case: Case,
+    inputs: Inputs,
+}
+
+/// How many cases passed and failed, and a line for each failure.
+#[derive(Drop)]
+pub struct Tried {
+    pub passed: u32,
+    pub failed: u32,
+    pub lines: String,
+}
+
+/// Tries the cases of a text, one a line. Lines without any are skipped.
+pub fn try_cases(alloc: Global, subject: Subject<'_>, text: &str) -> Result<Tried, Memory>
+    requires in_range { IsInRange subject.accepted.now }
+    requires some_cycle { 1 ≤ subject.cycles }
+{
+    let mut firsts = Vec::new(alloc);
+    let mut tried = Tried {
+        passed: 0,
+        failed: 0,
+        lines: String::new(alloc),
+    };
+    for (before, line) in text.split("\n").enumerate() {
+        if !line.trim_ascii().is_empty() {
+            let number = before.saturating_add(1);
+            let outcome = try_line(alloc, subject, &mut firsts, number, line);
+            tried.count(alloc, number, outcome)?;
+        }
+    }
+    Ok(tried)
+}
+
+impl Tried {
+    // Counts a case, and adds the line of its failure.
+    fn count(
+        &mut self,
+        alloc: Global,
+        line: usize,
+        outcome: Result<(), Problem>,
+    ) -> Result<(), Memory> {
+        match outcome {
+            Ok(()) => self.passed = self.passed.saturating_add(1),
+            Err(Problem::NoMemory) => return Err(Memory),
+            Err(Problem::Says(what)) => {
+                self.failed = self.failed.saturating_add(1);
+                let text = format!(in alloc; "line {line}: {what}\n")?;
+                self.lines.push_str(text.as_str())?;
+            }
+        }
+        Ok(())
+    }
+}
+
+// Tries the case of a line. If it is the first with its public inputs, later cases are
+// compared with it.
+fn try_line(
+    alloc: Global,
+    subject: Subject<'_>,
+    firsts: &mut Vec<First>,
+    number: usize,
+    line: &str,
+) -> Result<(), Problem>
+    requires in_range { IsInRange subject.accepted.now }
+    requires some_cycle { 1 ≤ subject.cycles }
+{
+    let case = Case::of(alloc, line)?;
+    let wants = subject.accepted.object().wants(alloc)?;
+    let inputs = case.inputs(alloc, &wants)?;
+    let left = words_of_run(alloc, subject, &inputs)?;
+    if let Some(expected) = case.expected() {
+        check_expected(alloc, subject.accepted.object().symbols(), &left, expected)?;
+    }
+    check_meaning(alloc, subject, &case, &left)?;
+    if !has_known_trace(alloc, subject, firsts, &inputs)? {
+        firsts.push(First {
+            line: number,
+            case,
+            inputs,
+        })?;
+    }
+    Ok(())
+}
+
+fn words_of_run(alloc: Global, subject: Subject<'_>, inputs: &Inputs) -> Result<Inputs, Problem>
+    requires in_range { IsInRange subject.accepted.now }
+    requires fits { FitsObject subject.accepted.now inputs.now }
+    requires some_cycle { 1 ≤ subject.cycles }
+{
+    match words_left(alloc, subject.accepted, inputs, subject.cycles)? {
+        Some(left) => Ok(left),
+        None => Err(unhalted(alloc, subject.cycles)),
+    }
+}
+
+fn unhalted(alloc: Global, cycles: u32) -> Problem {
+    match format!(in alloc; "the run doesn't halt within {cycles} cycles") {
+        Ok(text) => Problem::Says(text),
+        Err(_) => Problem::NoMemory,
+    }
+}
+
+// Checks that the run left what the program means. A run of n cycles has at most n iterations.
+fn check_meaning(
+    alloc: Global,
+    subject: Subject<'_>,
+    case: &Case,
+    left: &Inputs,
+) -> Result<(), Problem> {
+    let wants = subject.program.wants(alloc)?;
+    let inputs = case.inputs(alloc, &wants)?;
+    let symbols = subject.accepted.object().symbols();
+    let decls = subject.program.program().decls.as_slice();
+    match values_meant(alloc, subject.program, inputs, subject.cycles)? {
+        Some(meant) => if is_meant(symbols, left, decls, &meant) {
+            Ok(())
+        } else {
+            Err(saying(alloc, "the run leaves other values than the evaluation"))
+        },
+        None => Err(saying(alloc, "the run halts, but the evaluation doesn't end")),
+    }
+}
+
+// Whether each symbol has the words of its variable.
+fn is_meant(symbols: &[Symbol], left: &Inputs, decls: &[Decl], meant: &Inputs) -> bool {
+    for (number, symbol) in symbols.iter().enumerate() {
+        let Some(variable) = number_of(decls, symbol.name.bytes()) else {
+            return false;
+        };
+        if words_of(left, number) != words_of(meant, variable) {
+            return false;
+        }
+    }
+    true
+}
+
+// Whether an earlier case has the same public inputs. If so, it is a problem if its trace is another.
+fn has_known_trace(
+    alloc: Global,
+    subject: Subject<'_>,
+    firsts: &[First],
+    inputs: &Inputs,
+) -> Result<bool, Problem>
+    requires in_range { IsInRange subject.accepted.now }
+    requires fits { FitsObject subject.accepted.now inputs.now }
+{
+    let symbols = subject.accepted.object().symbols();
+    for other in firsts {
+        if agree_on_public(symbols, &other.inputs, inputs) {
+            compare_with(alloc, subject, other, inputs)?;
+            return Ok(true);
+        }
+    }
+    Ok(false)
+}
+
+fn compare_with(
+    alloc: Global,
+    subject: Subject<'_>,
+    other: &First,
+    inputs: &Inputs,
+) -> Result<(), Problem>
+    requires in_range { IsInRange subject.accepted.now }
+    requires fits { FitsObject subject.accepted.now inputs.now }
+{
+    let wants = subject.accepted.object().wants(alloc)?;
+    let first = other.case.inputs(alloc, &wants)?;
+    let run = RunWords {
+        cycles: subject.cycles,
+        seed: 0,
+        recursive: false,
+    };
+    match compare_runs(alloc, subject.accepted, &first, inputs, run)? {
+        Comparison::Equal { .. } => Ok(()),
+        Comparison::Differ { events, .. } => Err(shown(alloc, other.line, events)),
+    }
+}
+
+fn shown(alloc: Global, line: usize, events: u32) -> Problem {
+    let event = u64::from(events) + 1;
+    match format!(in alloc; "the trace differs from that of line {line} at event {event}") {
+        Ok(text) => Problem::Says(text),
+        Err(_) => Problem::NoMemory,
+    }
+}
+
+// Whether two inputs have the same words for each public symbol.
+fn agree_on_public(symbols: &[Symbol], first: &Inputs, second: &Inputs) -> bool {
+    for (number, symbol) in symbols.iter().enumerate() {
+        if symbol.label == Label::Public && words_of(first, number) != words_of(second, number) {
+            return false;
+        }
+    }
+    true
+}
