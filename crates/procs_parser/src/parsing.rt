@@ -22,7 +22,7 @@ use src_lexer::{Token, TokenKind};
 use src_parser::putting::put;
 use src_parser::statements::complete;
 use src_parser::states::{Blocks, Phase};
-use src_parser::{ParseError, TextError, TokenReader, read_text};
+use src_parser::{ParseError, TextError, TokenReader, read_text, read_tree};
 use src_procs::{PStmt, ProcFile, is_hidden};
 use std::alloc::Global;
 use std::mem;
@@ -233,14 +233,7 @@ pub fn parse_procs(alloc: Global, tokens: &[Token]) -> Result<ProcFile, ParseErr
     ensures plain { IfOk result (λ f. ArePlain f.decls.items) }
     ensures refused { IfErr result (λ error. ExplainsFile error tokens.now) }
 {
-    let mut reader = FileReader::new(alloc);
-    match reader.read(alloc, tokens) {
-        Ok(()) => reader.finish(alloc),
-        Err(error) => {
-            drop(reader);
-            Err(error)
-        }
-    }
+    read_tree::<FileReader>(alloc, tokens)
 }
 
 /// The file with procedures of a text of at most 1,048,576 bytes, or the text's first error. The tokens are read some at
