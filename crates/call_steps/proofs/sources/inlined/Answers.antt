@@ -15,11 +15,11 @@ returns-in-Ok-inline-clause-found c = record {
   };
 }
 
-pub returns-in-Ok-clause-refused : goal.returns-in-Ok-clause-refused
-returns-in-Ok-clause-refused c =
+pub returns-in-Err-inline-clause-refused : goal.returns-in-Err-inline-clause-refused
+returns-in-Err-inline-clause-refused c =
     call-first c.args.text.now (file_of c.in-Ok.file) c.in-Err-inline.fault c.shown_call_fault.result
     c.shown_call_fault.ensures c.in-Ok.ensures.spelled c.in-Err-inline.ensures.refused
 
-pub returns-clause-refused : goal.returns-clause-refused
-returns-clause-refused c =
+pub returns-in-Err-clause-refused : goal.returns-in-Err-clause-refused
+returns-in-Err-clause-refused c =
     file-first c.args.text.now c.in-Err.fault c.text_fault.result c.text_fault.ensures c.in-Err.ensures.refused
