@@ -159,21 +159,22 @@ class Case:
         data = shape()
         write('file', data)
         out = place('out')
-        self.call(['compile', place('file'), out], data, out, memory=PROGRAM_BYTES + heavy_sources.MOST_BYTES * len(data))
+        for more in [], ['--procs']:
+            self.call(['compile', place('file'), out, *more], data, out,
+                      memory=PROGRAM_BYTES + heavy_sources.MOST_BYTES * len(data))
 
     def try_large(self, shape):
-        """A large input takes memory in proportion to its size, also if an explanation is printed."""
+        """A large input takes a limited number of bytes for each byte, also if an explanation is printed."""
         data = large_inputs.SHAPES[shape]
         write('input', data)
         words = ['trace', f'{EXAMPLES}/sum.obj', place('input')]
-        self.call(words, data)
+        answer = self.call(words, data)
+        most = PROGRAM_BYTES + large_inputs.MOST * len(data)
         for explain in '01':
-            ran = subprocess.Popen([PROGRAM, *words], env={**os.environ, 'GHOSTRIDER_EXPLAIN': explain},
-                                   stdin=subprocess.DEVNULL, stdout=subprocess.DEVNULL, stderr=subprocess.DEVNULL)
-            _, _, usage = os.wait4(ran.pid, 0)
-            taken = usage.ru_maxrss * 1024 - large_inputs.BESIDE
-            if taken > large_inputs.MOST * len(data):
-                self.complain(words, data, f'{taken / len(data):.0f} bytes of memory for each byte of {shape}')
+            ran = subprocess.run([PROGRAM, *words], env={**os.environ, 'GHOSTRIDER_EXPLAIN': explain}, stdin=subprocess.DEVNULL,
+                                 stdout=subprocess.PIPE, stderr=subprocess.DEVNULL, preexec_fn=limited(most))
+            if (ran.returncode, ran.stdout) != answer:
+                self.complain(words, data, f'{ran.stdout[-80:]!r} with {most} bytes of memory')
 
     def seconds(self, words, data):
         """The processor seconds of a call whose cycles are spent."""

@@ -1,16 +1,24 @@
-"""Sources of the greatest size that take the most memory for it: many tokens, many small trees, or many short blocks."""
+"""Sources of the greatest size that take the most memory for it: many tokens, many small trees, many short blocks, or
+sums that a call copies."""
 
 SIZE = 1 << 20
 MOST_BYTES = 70  # of memory for each byte of a source
 
 
-def filled(statement):
-    declared = 'public int x;'
-    return (declared + statement * ((SIZE - len(declared)) // len(statement))).encode()
+def filled(statement, declared='public int x;', behind=''):
+    return (declared + statement * ((SIZE - len(declared) - len(behind)) // len(statement)) + behind).encode()
 
 
 def sums():
     return filled('x=x' + '+x' * 250 + ';')
+
+
+def sums_in_a_procedure():
+    return filled('y=y' + '+y' * 250 + ';', 'proc f(public int y){', '} f(1);')
+
+
+def sums_as_arguments():
+    return filled('f(x' + '+x' * 250 + ');', 'public int x; proc f(public int y){y=1;}')
 
 
 def signs():
@@ -33,4 +41,4 @@ def new_names():
     return ('public int x;' + lines)[:SIZE].rsplit(';', 1)[0].encode() + b';'
 
 
-SHAPES = (sums, signs, nested_choices, short_blocks, new_names)
+SHAPES = (sums, sums_in_a_procedure, sums_as_arguments, signs, nested_choices, short_blocks, new_names)

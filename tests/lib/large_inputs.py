@@ -1,8 +1,8 @@
 """Inputs that took the most memory for their size: objects within objects, many small values, many names, many numbers."""
 BYTES = 2 << 20
 
-# The most memory for each byte of an input, and what a call takes beside it.
-MOST, BESIDE = 40, 8 << 20
+# The most memory for each byte of an input.
+MOST = 10
 
 
 def filled(begin, piece, end):
