@@ -7,18 +7,14 @@ use Rattle.std.proofs.lemmas.Nat.{pow_pos}
 use Rattle.std.proofs.lemmas.Bool.{eq-eqb, le-leb, cases_lt}
 use Rattle.std.proofs.lemmas.List.{get_or-take, length-take-le, take-take}
 use Rattle.std.proofs.lemmas.List.Sums.{sum_by_more_le}
-use Rattle.gr_base.specs.Lists.{Within}
+use Rattle.gr_base.specs.Prelude.{Within}
 use Rattle.gr_word.specs.declared.variables.Label.{Label}
 use Rattle.gr_word.specs.declared.variables.Label.TheVariants.{Public, Secret}
-use Rattle.lt_isa.specs.Limits.{most_words}
+use Rattle.lt_isa.specs.Prelude.{most_words}
 use Rattle.src_tree.specs.declared.trees.Decl.{Decl}
-use Rattle.src_tree.specs.Contexts.{shape_of}
-use Rattle.src_tree.specs.Limits.{LengthFits, IsWithinLimits}
-use Rattle.src_tree.specs.Trees.{Source}
+use Rattle.src_tree.specs.Prelude.{shape_of, LengthFits, IsWithinLimits, Source}
 use Rattle.bank_alloc.specs.declared.places.Place.{Place}
-use Rattle.bank_alloc.specs.Apart.{start_of_place, end_of_place, scalar_bank, LiesWithin, AreApart}
-use Rattle.bank_alloc.specs.Fits.{Fits, ScalarsFit}
-use Rattle.bank_alloc.specs.Places.{blocks_for, is_oblivious, is_array, is_scalar_in, scalars_in, oblivious_arrays, first_free_block, places_of, bank_count, blocks_needed}
+use Rattle.bank_alloc.specs.Prelude.{start_of_place, end_of_place, scalar_bank, LiesWithin, AreApart, Fits, ScalarsFit, blocks_for, is_oblivious, is_array, is_scalar_in, scalars_in, oblivious_arrays, first_free_block, places_of, bank_count, blocks_needed}
 use Rattle.bank_alloc.proofs.EachPlace.{length-places, scalar_place_at, array_place_at, blocks_for-hold, blocks_for-some, array_before_free, array_before_later}
 use Rattle.bank_alloc.proofs.Refusals.{scalars_behind}
 

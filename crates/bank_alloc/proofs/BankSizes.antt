@@ -7,16 +7,14 @@ use Rattle.std.proofs.lemmas.Nat.{pow_pos}
 use Rattle.std.proofs.lemmas.Bool.{leb-true}
 use Rattle.std.proofs.lemmas.List.{length-take-le, get_or-map, length-map}
 use Rattle.std.proofs.lemmas.List.Sums.{sum_by-cons}
-use Rattle.gr_base.specs.Lists.{Within, EachAfter}
+use Rattle.gr_base.specs.Prelude.{Within, EachAfter}
 use Rattle.gr_base.proofs.EachAfter.{EachAfter-from_below}
 use Rattle.lt_isa.specs.declared.profiles.BankSpec.{BankSpec}
-use Rattle.lt_isa.specs.Limits.{most_blocks, most_latency}
-use Rattle.lt_isa.specs.Ranges.{BankFits}
+use Rattle.lt_isa.specs.Prelude.{most_blocks, most_latency, BankFits}
 use Rattle.src_tree.specs.declared.trees.Decl.{Decl}
-use Rattle.src_tree.specs.Limits.{LengthFits, IsWithinLimits}
-use Rattle.src_tree.specs.Trees.{Source}
+use Rattle.src_tree.specs.Prelude.{LengthFits, IsWithinLimits, Source}
 use Rattle.bank_alloc.specs.declared.places.Place.{Place}
-use Rattle.bank_alloc.specs.Places.{blocks_for, is_oblivious, first_free_block, places_of, bank_count, blocks_needed}
+use Rattle.bank_alloc.specs.Prelude.{blocks_for, is_oblivious, first_free_block, places_of, bank_count, blocks_needed}
 use Rattle.bank_alloc.proofs.EachPlace.{any_decl, any_place, length-places, scalar_place_at, array_place_at, blocks_for-some, array_before_free}
 use Rattle.bank_alloc.proofs.Apart.{length_at, scalar_bank-lt}
 

@@ -9,14 +9,10 @@ use Rattle.std.proofs.lemmas.List.Sums.{sum_by_more_le}
 use Rattle.gr_word.specs.declared.variables.Label.{Label}
 use Rattle.gr_word.specs.declared.variables.Label.TheVariants.{Public, Secret}
 use Rattle.src_tree.specs.declared.trees.Decl.{Decl}
-use Rattle.src_tree.specs.Limits.{words_of_length, words_of}
-use Rattle.src_tree.specs.Trees.{Source}
+use Rattle.src_tree.specs.Prelude.{words_of_length, words_of, Source}
 use Rattle.bank_alloc.specs.declared.classes.Class.{Class}
 use Rattle.bank_alloc.specs.declared.places.Place.{Place}
-use Rattle.bank_alloc.specs.Indexes.{has_secret_index}
-use Rattle.bank_alloc.specs.Apart.{scalar_bank, IsBankOf}
-use Rattle.bank_alloc.specs.Classes.{class_by, class_of}
-use Rattle.bank_alloc.specs.Places.{blocks_for, is_array, scalars_in, oblivious_arrays, blocks_taken, first_free_block, array_place, place_behind, places_behind, places_of}
+use Rattle.bank_alloc.specs.Prelude.{has_secret_index, scalar_bank, IsBankOf, class_by, class_of, blocks_for, is_array, scalars_in, oblivious_arrays, blocks_taken, first_free_block, array_place, place_behind, places_behind, places_of}
 
 -- any declaration and any place, where a read of a list wants one
 abbrev pub any_decl : Decl

@@ -14,12 +14,10 @@ use Rattle.gr_word.specs.declared.variables.Label.{Label}
 use Rattle.gr_word.specs.declared.variables.Label.TheVariants.{Secret}
 use Rattle.gr_word.specs.declared.variables.Shape.{Shape}
 use Rattle.src_tree.specs.declared.trees.Decl.{Decl}
-use Rattle.src_tree.specs.Contexts.{Context, label_and_shape, context_of}
-use Rattle.src_tree.specs.Labels.{secret_label}
-use Rattle.src_tree.specs.Typing.{DeclaredOnce}
+use Rattle.src_tree.specs.Prelude.{Context, label_and_shape, context_of, secret_label, DeclaredOnce}
 use Rattle.src_tree.proofs.Contexts.{declared_last, swapped}
-use Rattle.gr_base.specs.NameMaps.{found_under}
-use Rattle.bank_alloc.specs.Known.{GainsNames, is_member}
+use Rattle.gr_base.specs.Prelude.{found_under}
+use Rattle.bank_alloc.specs.Prelude.{GainsNames, is_member}
 
 -- one more declaration's name in the map
 pub one_more : (decls : List Decl) (i : ℕ) (d : Decl) (m n : BTreeMap (Bor (List ℕ)) (Label × Shape)) (k : Bor (List ℕ))

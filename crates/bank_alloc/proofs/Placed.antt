@@ -6,14 +6,11 @@ use Rattle.std.proofs.lemmas.Bool.Decides.{nat_tests}
 use Rattle.std.proofs.lemmas.List.{ext_get_or, take_all, take_more}
 use Rattle.std.proofs.lemmas.List.Sums.{sum_by-append, sum_by-cons}
 use Rattle.src_tree.specs.declared.trees.Decl.{Decl}
-use Rattle.src_tree.specs.Limits.{words_of}
-use Rattle.src_tree.specs.Trees.{Source}
+use Rattle.src_tree.specs.Prelude.{words_of, Source}
 use Rattle.bank_alloc.specs.declared.classes.Class.{Class}
 use Rattle.bank_alloc.specs.declared.classes.Class.TheVariants.{PublicScalar, SecretScalar, PublicArray, EncryptedArray, ObliviousArray}
 use Rattle.bank_alloc.specs.declared.places.Place.{Place}
-use Rattle.bank_alloc.specs.Classes.{class_of}
-use Rattle.bank_alloc.specs.Places.{blocks_for, is_oblivious, is_scalar_in, is_array_in, scalars_in, oblivious_arrays, blocks_taken, first_free_block, place_behind, places_of}
-use Rattle.bank_alloc.specs.PlaceRules.{is_same, class_count, blocks_of_class, blocks_in_turn, place_by, ArePlaced, BanksNeed}
+use Rattle.bank_alloc.specs.Prelude.{class_of, blocks_for, is_oblivious, is_scalar_in, is_array_in, scalars_in, oblivious_arrays, blocks_taken, first_free_block, place_behind, places_of, is_same, class_count, blocks_of_class, blocks_in_turn, place_by, ArePlaced, BanksNeed}
 use Rattle.bank_alloc.proofs.EachPlace.{any_decl, any_place, length-places, get_or-places, array_block}
 
 -- what a place adds to each count
@@ -32,39 +29,28 @@ late t = le-leb 2 (2 + t) (omega arith)
 
 module _ (size : ℕ) (before : List Place) (words : ℕ) where
   public_more : (c : Class) → is_scalar_in 0 (place_behind size before c words) ≡ is_same PublicScalar c
-  public_more PublicScalar = refl
-  public_more SecretScalar = refl
   public_more PublicArray = rw (array_block (sum_by (blocks_taken size 0) before)) refl
-  public_more EncryptedArray = refl
   public_more ObliviousArray = rw (bank_other 0 (oblivious_arrays before % 8) (omega arith)) refl
+  public_more other = refl
 
   secret_more : (c : Class) → is_scalar_in 1 (place_behind size before c words) ≡ is_same SecretScalar c
-  secret_more PublicScalar = refl
-  secret_more SecretScalar = refl
-  secret_more PublicArray = refl
   secret_more EncryptedArray = rw (array_block (sum_by (blocks_taken size 1) before)) refl
   secret_more ObliviousArray = rw (bank_other 1 (oblivious_arrays before % 8) (omega arith)) refl
+  secret_more other = refl
 
   oblivious_more : (c : Class) → is_oblivious (place_behind size before c words) ≡ is_same ObliviousArray c
-  oblivious_more PublicScalar = refl
-  oblivious_more SecretScalar = refl
-  oblivious_more PublicArray = refl
-  oblivious_more EncryptedArray = refl
   oblivious_more ObliviousArray = late (oblivious_arrays before % 8)
+  oblivious_more other = refl
 
   plain_more : (c : Class) → is_array_in 0 (place_behind size before c words) ≡ is_same PublicArray c
-  plain_more PublicScalar = refl
-  plain_more SecretScalar = refl
   plain_more PublicArray = rw (array_block (sum_by (blocks_taken size 0) before)) refl
-  plain_more EncryptedArray = refl
   plain_more ObliviousArray = rw (bank_other 0 (oblivious_arrays before % 8) (omega arith)) refl
+  plain_more other = refl
 
   encrypted_more : (c : Class) → is_array_in 1 (place_behind size before c words) ≡ is_same EncryptedArray c
-  encrypted_more PublicScalar = refl
-  encrypted_more SecretScalar = refl
-  encrypted_more PublicArray = refl
   encrypted_more EncryptedArray = rw (array_block (sum_by (blocks_taken size 1) before)) refl
   encrypted_more ObliviousArray = rw (bank_other 1 (oblivious_arrays before % 8) (omega arith)) refl
+  encrypted_more other = refl
 
   turn_more : (t : ℕ) (c : Class) → is_array_in (2 + t) (place_behind size before c words)
       ≡ (is_same ObliviousArray c && eqb (oblivious_arrays before % 8) t)

@@ -10,22 +10,15 @@ use Rattle.std.proofs.Math.Nat.{mod-eq_of_lt}
 use Rattle.std.proofs.lemmas.List.{append-nil, drop_more, drop_all}
 use Rattle.std.proofs.lemmas.List.Elements.{All-push, All-nil, All-cons}
 use Rattle.std.proofs.lemmas.List.FromFn.{map-range_with_len_more}
-use Rattle.gr_base.specs.Lists.{Within}
+use Rattle.gr_base.specs.Prelude.{Within, found_under}
 use Rattle.gr_word.specs.declared.variables.Label.{Label}
 use Rattle.gr_word.specs.declared.variables.Shape.{Shape}
 use Rattle.src_tree.specs.declared.trees.Decl.{Decl}
-use Rattle.src_tree.specs.Contexts.{Context, context_of}
-use Rattle.src_tree.specs.Limits.{LengthFits, words_of, words_of_length}
-use Rattle.src_tree.specs.Trees.{Source}
+use Rattle.src_tree.specs.Prelude.{Context, context_of, LengthFits, words_of, words_of_length, Source}
 use Rattle.bank_alloc.specs.declared.classes.Class.{Class}
 use Rattle.bank_alloc.specs.declared.places.Place.{Place}
 use Rattle.bank_alloc.specs.declared.places.Places.{Places}
-use Rattle.bank_alloc.specs.Indexes.{secret_index_in_block}
-use Rattle.bank_alloc.specs.Classes.{class_by, class_of}
-use Rattle.gr_base.specs.NameMaps.{found_under}
-use Rattle.bank_alloc.specs.Known.{is_member, class_in}
-use Rattle.bank_alloc.specs.Lacks.{AreFew}
-use Rattle.bank_alloc.specs.Places.{place_behind, places_behind, first_free_block, bank_count, blocks_of_banks, IsPlacesOf}
+use Rattle.bank_alloc.specs.Prelude.{secret_index_in_block, class_by, class_of, is_member, class_in, AreFew, place_behind, places_behind, first_free_block, bank_count, blocks_of_banks, IsPlacesOf}
 
 -- one more declaration, whose place was appended to the others
 pub places_more : (class : Decl → Class) (size : ℕ) (ds : List Decl) (i : ℕ) (d : Decl) (places more : List Place)

@@ -6,21 +6,16 @@ use Rattle.std.proofs.lemmas.List.Sums.{sum_by-cons}
 use Rattle.std.proofs.lemmas.List.FromFn.{get_or-map-range_with_len, length-map-range_with_len}
 use Rattle.gr_word.specs.declared.variables.Label.{Label}
 use Rattle.gr_word.specs.declared.variables.Label.TheVariants.{Public, Secret}
-use Rattle.lt_isa.specs.Limits.{most_blocks}
+use Rattle.lt_isa.specs.Prelude.{most_blocks}
 use Rattle.src_tree.specs.declared.trees.Decl.{Decl}
-use Rattle.src_tree.specs.Limits.{words_of}
-use Rattle.src_tree.specs.Trees.{Source}
+use Rattle.src_tree.specs.Prelude.{words_of, Source}
 use Rattle.bank_alloc.specs.declared.classes.Class.{Class}
 use Rattle.bank_alloc.specs.declared.classes.Class.TheVariants.{PublicScalar, SecretScalar, PublicArray, EncryptedArray, ObliviousArray}
 use Rattle.bank_alloc.specs.declared.places.Place.{Place}
 use Rattle.bank_alloc.specs.declared.places.Places.{Places}
 use Rattle.bank_alloc.specs.declared.places.PlaceError.{PlaceError}
 use Rattle.bank_alloc.specs.declared.places.PlaceError.TheVariants.{TooManyScalars, BankFull}
-use Rattle.bank_alloc.specs.Indexes.{has_secret_index}
-use Rattle.bank_alloc.specs.Classes.{class_by, class_of, is_labelled, is_scalar}
-use Rattle.bank_alloc.specs.Fits.{scalars_of, ScalarsFit, Fits, Refuses}
-use Rattle.bank_alloc.specs.Lacks.{first_full, first_lack}
-use Rattle.bank_alloc.specs.Places.{blocks_taken, is_scalar_in, oblivious_arrays, scalars_in, place_behind, places_behind, places_of, bank_count, blocks_needed, blocks_of_banks, IsPlacesOf}
+use Rattle.bank_alloc.specs.Prelude.{has_secret_index, class_by, class_of, is_labelled, is_scalar, scalars_of, ScalarsFit, Fits, Refuses, first_full, first_lack, blocks_taken, is_scalar_in, oblivious_arrays, scalars_in, place_behind, places_behind, places_of, bank_count, blocks_needed, blocks_of_banks, IsPlacesOf}
 
 -- whether a class is that of scalars of a label, and their bank
 abbrev pub is_scalar_class : Label → Class → Bool
@@ -66,11 +61,9 @@ oblivious_no_scalar b c turn =
 
 scalar_at : (label : Label) (size : ℕ) (before : List Place) (class : Class) (words : ℕ)
     → is_scalar_in (bank_of label) (place_behind size before class words) ≡ is_scalar_class label class
-scalar_at Public size before PublicScalar words = refl
-scalar_at Public size before SecretScalar words = refl
 scalar_at Public size before PublicArray words = array_no_scalar true false (sum_by (blocks_taken size 0) before)
-scalar_at Public size before EncryptedArray words = refl
 scalar_at Public size before ObliviousArray words = oblivious_no_scalar _ _ (oblivious_arrays before % 8)
+scalar_at Public size before other words = refl
 scalar_at Secret size before PublicScalar words = refl
 scalar_at Secret size before SecretScalar words = refl
 scalar_at Secret size before PublicArray words = refl

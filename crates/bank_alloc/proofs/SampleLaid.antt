@@ -1,12 +1,9 @@
 -- The sample is well typed, within the limits, fits, and has the places that it states.
 use Rattle.std.proofs.Common.{◌≡◌, ℕ, zero, suc, ◌<◌, ◌≤◌, refl, arith}
-use Rattle.src_tree.specs.Limits.{IsWithinLimits}
-use Rattle.src_tree.specs.Typing.{IsTyped}
+use Rattle.src_tree.specs.Prelude.{IsWithinLimits, IsTyped}
 use Rattle.gr_word.specs.declared.variables.Label.TheVariants.{Secret}
-use Rattle.lt_isa.specs.Limits.{most_blocks}
-use Rattle.bank_alloc.specs.Fits.{Fits}
-use Rattle.bank_alloc.specs.Places.{places_behind, places_of, bank_count, blocks_needed, blocks_of_banks}
-use Rattle.bank_alloc.specs.Samples.{sample, sample_places, sample_blocks}
+use Rattle.lt_isa.specs.Prelude.{most_blocks}
+use Rattle.bank_alloc.specs.Prelude.{Fits, places_behind, places_of, bank_count, blocks_needed, blocks_of_banks, sample, sample_places, sample_blocks}
 
 -- the sample is well typed
 pub sample_typed : IsTyped sample

@@ -1,12 +1,8 @@
 -- The places of a program's variables are within its banks, and no two variables share a word.
 use Rattle.std.proofs.Common.{◌≡◌, ℕ, ◌*◌, ◌^◌, ◌<◌, ◌≤◌, length, get_or, Option, Some, None, refl, sym, ap, ◌∙◌, subst, arith}
-use Rattle.lt_isa.specs.Limits.{most_blocks}
-use Rattle.src_tree.specs.Limits.{IsWithinLimits, words_of, words_of_length}
-use Rattle.src_tree.specs.Trees.{Source}
-use Rattle.bank_alloc.specs.Apart.{end_of_place}
-use Rattle.bank_alloc.specs.Fits.{Fits}
-use Rattle.bank_alloc.specs.Layout.{ArePlacesIn, no_decl, no_place}
-use Rattle.bank_alloc.specs.Places.{places_of, blocks_of_banks, bank_count}
+use Rattle.lt_isa.specs.Prelude.{most_blocks}
+use Rattle.src_tree.specs.Prelude.{IsWithinLimits, words_of, words_of_length, Source}
+use Rattle.bank_alloc.specs.Prelude.{end_of_place, Fits, ArePlacesIn, no_decl, no_place, places_of, blocks_of_banks, bank_count}
 use Rattle.bank_alloc.proofs.Apart.{lies_within, variables_apart}
 use Rattle.bank_alloc.proofs.EachPlace.{length-places, scalar_place_at, array_place_at}
 use Rattle.bank_alloc.proofs.Refusals.{length-blocks, get_or-blocks}

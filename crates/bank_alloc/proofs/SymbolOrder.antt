@@ -8,26 +8,19 @@ use Rattle.std.proofs.lemmas.Bool.{cases_lt}
 use Rattle.std.proofs.lemmas.List.{get_or-take, get_or_default, length-take-le, get_or-map, length-map}
 use Rattle.std.proofs.lemmas.List.Sorted.{All-permutation, sum_by-IsPermutation}
 use Rattle.std.proofs.lemmas.List.Sums.{sum_by-cons, sum_by_more_le}
-use Rattle.gr_base.specs.Lists.{Within, EachAfter, at_last}
+use Rattle.gr_base.specs.Prelude.{Within, EachAfter, at_last}
 use Rattle.gr_base.proofs.AtLast.{at_last-get_or}
 use Rattle.gr_base.proofs.EachAfter.{EachAfter-from_below}
-use Rattle.gr_word.specs.Names.{is_name}
+use Rattle.gr_word.specs.Prelude.{is_name}
 use Rattle.lt_isa.specs.declared.profiles.BankSpec.{BankSpec}
 use Rattle.lt_isa.specs.declared.symbols.Symbol.{Symbol}
-use Rattle.lt_isa.specs.Limits.{most_words, most_blocks}
-use Rattle.lt_isa.specs.Object.{no_bank, first_word, end_word}
-use Rattle.lt_isa.specs.Ranges.{SymbolFits, total_length}
-use Rattle.lt_isa.specs.SymbolPlaces.{LiesBehind, last_bank, last_end}
+use Rattle.lt_isa.specs.Prelude.{most_words, most_blocks, no_bank, first_word, end_word, SymbolFits, total_length, LiesBehind, last_bank, last_end}
 use Rattle.lt_isa.proofs.SymbolPlaces.{most_blocks-le}
 use Rattle.src_tree.specs.declared.trees.Decl.{Decl}
-use Rattle.src_tree.specs.Limits.{IsWithinLimits, LengthFits, total_words, words_of, words_of_length}
-use Rattle.src_tree.specs.Contexts.{shape_of}
-use Rattle.src_tree.specs.Trees.{Source}
-use Rattle.src_tree.specs.Typing.{IsTyped}
+use Rattle.src_tree.specs.Prelude.{IsWithinLimits, LengthFits, total_words, words_of, words_of_length, shape_of, Source, IsTyped}
 use Rattle.src_tree.proofs.NamesDiffer.{names_differ}
 use Rattle.bank_alloc.specs.declared.places.Place.{Place}
-use Rattle.bank_alloc.specs.Keys.{symbol_key}
-use Rattle.bank_alloc.specs.Layout.{placed_symbol, placed_symbols, StandsBefore, InEarlierBank, AtEarlierWord, AreSymbolsAt, ArePlacesIn, IsWithinBank, no_decl, no_place}
+use Rattle.bank_alloc.specs.Prelude.{symbol_key, placed_symbol, placed_symbols, StandsBefore, InEarlierBank, AtEarlierWord, AreSymbolsAt, ArePlacesIn, IsWithinBank, no_decl, no_place}
 use Rattle.bank_alloc.proofs.Apart.{length_at}
 use Rattle.bank_alloc.proofs.PlacedBehind.{block_range}
 use Rattle.gr_base.proofs.Permuted.{EachTwo, each_two_permuted}

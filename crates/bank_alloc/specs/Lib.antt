@@ -13,3 +13,4 @@ pub use Rattle.src_tree.specs.Trees
 pub use Rattle.src_tree.specs.Typing
 pub use Rattle.src_tree.specs.Limits
 pub use Rattle.lt_isa.specs.Object
+pub mod Prelude

@@ -1,8 +1,6 @@
 ghost use Rattle.std.specs.Prelude.{◌≡◌, ◌^◌, ◌<◌, ◌≤◌, IfOk, IfErr, OnOk, [], length, All};
-ghost use Rattle.gr_base.specs.Lists.{Within};
-ghost use Rattle.src_tree.specs.Limits.{IsWithinLimits};
-ghost use Rattle.src_tree.specs.Trees.{source_of};
-ghost use Rattle.src_tree.specs.Typing.{IsTyped};
+ghost use Rattle.gr_base.specs.Prelude.{Within};
+ghost use Rattle.src_tree.specs.Prelude.{IsWithinLimits, source_of, IsTyped};
 ghost use Rattle.bank_alloc.specs.Fits.{Fits, Refuses};
 ghost use Rattle.bank_alloc.specs.Lacks.{AreFew, first_full, first_lack};
 ghost use Rattle.bank_alloc.specs.PlaceRules.{ArePlaced};

@@ -1,6 +1,5 @@
 ghost use Rattle.std.specs.Prelude.{◌≡◌, IfOk, map};
-ghost use Rattle.src_tree.specs.Trees.{source_of};
-ghost use Rattle.src_tree.specs.Typing.{IsTyped};
+ghost use Rattle.src_tree.specs.Prelude.{source_of, IsTyped};
 ghost use Rattle.bank_alloc.specs.Classes.{class_of};
 ghost use Rattle.bank_alloc.specs.Known.{class_in};
 

@@ -1,14 +1,7 @@
 ghost use Rattle.std.specs.Prelude.{◌≡◌, ◌&&◌, IfOk, OnOk, bytes_eq};
-ghost use Rattle.src_tree.specs.Contexts.{context_of};
-ghost use Rattle.src_tree.specs.Labels.{label_of, secret_label};
-ghost use Rattle.src_tree.specs.Trees.{expr_tree, test_of, statement_of, block_of_all};
-ghost use Rattle.bank_alloc.specs.Indexes.{
-  secret_index_in,
-  secret_index_in_test,
-  secret_index_in_statement,
-  secret_index_in_block,
-};
-ghost use Rattle.gr_base.specs.NameMaps.{found_under};
+ghost use Rattle.src_tree.specs.Prelude.{context_of, label_of, secret_label, expr_tree, test_of, statement_of, block_of_all};
+ghost use Rattle.bank_alloc.specs.Indexes.{secret_index_in, secret_index_in_test, secret_index_in_statement, secret_index_in_block};
+ghost use Rattle.gr_base.specs.Prelude.{found_under};
 ghost use Rattle.bank_alloc.specs.Known.{GainsNames, is_member};
 
 use gr_base::Memory;

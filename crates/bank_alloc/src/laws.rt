@@ -1,8 +1,6 @@
 ghost use Rattle.std.specs.Prelude.{◌≡◌, ℕ, ◌^◌, ◌<◌, ◌≤◌, ◌↔◌, List, length, slice_index_or};
 ghost use Rattle.src_tree.specs.declared.trees.Decl.{Decl};
-ghost use Rattle.src_tree.specs.Limits.{IsWithinLimits};
-ghost use Rattle.src_tree.specs.Trees.{Source};
-ghost use Rattle.src_tree.specs.Typing.{IsTyped};
+ghost use Rattle.src_tree.specs.Prelude.{IsWithinLimits, Source, IsTyped};
 ghost use Rattle.bank_alloc.specs.declared.places.Place.{Place};
 ghost use Rattle.bank_alloc.specs.Apart.{AreApart, IsBankOf, LiesWithin};
 ghost use Rattle.bank_alloc.specs.Fits.{Fits};

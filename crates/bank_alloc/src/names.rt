@@ -1,7 +1,6 @@
 ghost use Rattle.std.specs.Prelude.{◌≡◌, IfOk};
-ghost use Rattle.gr_base.specs.NameMaps.{found_under};
-ghost use Rattle.src_tree.specs.Contexts.{context_of};
-ghost use Rattle.src_tree.specs.Typing.{DeclaredOnce};
+ghost use Rattle.gr_base.specs.Prelude.{found_under};
+ghost use Rattle.src_tree.specs.Prelude.{context_of, DeclaredOnce};
 
 use gr_base::Memory;
 use src_tree::{Decl, Names, shape_of};

@@ -1,26 +1,10 @@
 ghost use Rattle.std.specs.Prelude.{◌≡◌, ◌+◌, ◌^◌, ◌<◌, ◌≤◌, IfOk, IsTrue, [], length, All, map};
 ghost use Rattle.std.specs.List.{range_with_len};
-ghost use Rattle.gr_base.specs.Lists.{Within};
-ghost use Rattle.src_tree.specs.Limits.{max_length, max_variables, words_of_length, words_of};
+ghost use Rattle.gr_base.specs.Prelude.{Within};
+ghost use Rattle.src_tree.specs.Prelude.{max_length, max_variables, words_of_length, words_of};
 ghost use Rattle.bank_alloc.specs.Known.{class_in};
 ghost use Rattle.bank_alloc.specs.Lacks.{AreFew};
-ghost use Rattle.bank_alloc.specs.Places.{
-  array_place,
-  bank_count,
-  blocks_for,
-  blocks_taken,
-  first_block,
-  first_free_block,
-  is_array,
-  is_array_in,
-  is_oblivious,
-  is_scalar_in,
-  oblivious_arrays,
-  place_behind,
-  places_behind,
-  scalar_place,
-  scalars_in,
-};
+ghost use Rattle.bank_alloc.specs.Places.{array_place, bank_count, blocks_for, blocks_taken, first_block, first_free_block, is_array, is_array_in, is_oblivious, is_scalar_in, oblivious_arrays, place_behind, places_behind, scalar_place, scalars_in};
 
 use crate::classes::{Class, class_in};
 use crate::indexes::Indexed;

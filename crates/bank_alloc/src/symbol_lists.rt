@@ -1,12 +1,10 @@
 ghost use Rattle.std.specs.Prelude.{◌≡◌, ◌+◌, ◌*◌, ◌^◌, ◌≤◌, ◌<◌, IfOk, OnOk, IsTrue, List, [], length, map, All};
 ghost use Rattle.std.specs.List.Sorted.{IsNonDecreasingBy, IsPermutation};
-ghost use Rattle.gr_base.specs.Lists.{EachAfter, Within};
-ghost use Rattle.gr_word.specs.Names.{is_name};
-ghost use Rattle.lt_isa.specs.Ranges.{SymbolFits};
+ghost use Rattle.gr_base.specs.Prelude.{EachAfter, Within};
+ghost use Rattle.gr_word.specs.Prelude.{is_name};
+ghost use Rattle.lt_isa.specs.Prelude.{SymbolFits};
 ghost use Rattle.lt_isa.specs.declared.profiles.BankSpec.{BankSpec};
-ghost use Rattle.src_tree.specs.Limits.{IsWithinLimits};
-ghost use Rattle.src_tree.specs.Trees.{source_of};
-ghost use Rattle.src_tree.specs.Typing.{IsTyped};
+ghost use Rattle.src_tree.specs.Prelude.{IsWithinLimits, source_of, IsTyped};
 ghost use Rattle.bank_alloc.specs.Keys.{symbol_key};
 ghost use Rattle.bank_alloc.specs.Layout.{ArePlacesIn, AreSymbolsAt, placed_symbol, placed_symbols};
 

@@ -6,16 +6,10 @@ use Rattle.std.proofs.lemmas.List.Elements.{All-append, All-cons, All-nil}
 use Rattle.std.specs.Prelude.{◌==◌, slice_get}
 use Rattle.lt_isa.specs.declared.instructions.Instr.{Instr}
 use Rattle.lt_isa.specs.declared.instructions.Instr.TheVariants.{Nop, Halt, Li, Alu, Ldb, Stb, Idb, Ldw, Stw, Jmp, Br}
-use Rattle.lt_isa.specs.Object.{Parts, blocks_of}
-use Rattle.lt_isa.specs.Ranges.{IsInRange, InstrFits}
-use Rattle.lt_isa.specs.Machine.{State, Slot, Unbound, Bound, Observed, slot, register}
-use Rattle.lt_isa.specs.Shape.{IsShaped}
-use Rattle.lt_isa.specs.Step.{StepResult, Goes, Stops, Faults, step, step_start}
-use Rattle.lt_isa.specs.Trace.{Stamped, stamped, shown_then, trace_from, trace_within}
+use Rattle.lt_isa.specs.Prelude.{Parts, blocks_of, IsInRange, InstrFits, State, Slot, Unbound, Bound, Observed, slot, register, IsShaped, StepResult, Goes, Stops, Faults, step, step_start, Stamped, stamped, shown_then, trace_from, trace_within}
 use Rattle.lt_isa.proofs.Shapes.{block_named-below, step-shaped}
 use Rattle.lt_isa.proofs.Steps.{bound-fits, instruction-fits}
-use Rattle.banks.specs.Accesses.{Access, access_on, accessed, accessed_by, accessed_if, accessed_then, accesses_from, accesses_within, in_bank, at_most_one}
-use Rattle.banks.specs.ObliviousEvents.{if_it_is, accesses_shown}
+use Rattle.banks.specs.Prelude.{Access, access_on, accessed, accessed_by, accessed_if, accessed_then, accesses_from, accesses_within, in_bank, at_most_one, if_it_is, accesses_shown}
 use Rattle.banks.proofs.InBank.{in_bank-append}
 use Rattle.banks.proofs.ShownAccesses.{event_of_outcome, if_oblivious, made_bank, step-bank, told_bank}
 
@@ -122,17 +116,9 @@ on_slot_fits o s shaped k (Bound b a words) is =
 
 accessed_by-fits : (o : Parts) → IsInRange o → (s : State) → IsShaped o s → (i : Instr) → InstrFits (length o.banks) i
     → OptionFits o (accessed_by o s i)
-accessed_by-fits o range s shaped Nop fits = tt
-accessed_by-fits o range s shaped Halt fits = tt
-accessed_by-fits o range s shaped (Li rd value) fits = tt
-accessed_by-fits o range s shaped (Alu op rd ra rb) fits = tt
 accessed_by-fits o range s shaped (Ldb k b r) fits = (fits.1, block_named-below o range b fits.1 (register s r))
 accessed_by-fits o range s shaped (Stb k) fits = on_slot_fits o s shaped k (slot s k) refl
-accessed_by-fits o range s shaped (Idb rd k) fits = tt
-accessed_by-fits o range s shaped (Ldw rd k ro) fits = tt
-accessed_by-fits o range s shaped (Stw rs k ro) fits = tt
-accessed_by-fits o range s shaped (Jmp offset) fits = tt
-accessed_by-fits o range s shaped (Br cmp ra rb offset) fits = tt
+accessed_by-fits o range s shaped other fits = tt
 
 accessed-fits : (o : Parts) → IsInRange o → (s : State) → IsShaped o s → OptionFits o (accessed o s)
 unfolding accessed

@@ -3,14 +3,10 @@ use Rattle.std.proofs.Common.{◌≡◌, ℕ, zero, suc, ◌+◌, ◌<◌, ◌�
 use Rattle.std.specs.Prelude.{slice_get}
 use Rattle.std.proofs.lemmas.Bool.{cases_lt, cond_below, cond_above}
 use Rattle.lt_isa.specs.declared.instructions.Instr.{Instr}
-use Rattle.lt_isa.specs.Object.{Parts}
-use Rattle.lt_isa.specs.Ranges.{IsInRange}
-use Rattle.lt_isa.specs.Machine.{State, Observed}
-use Rattle.lt_isa.specs.Step.{StepResult, Goes, Stops, Faults, step, step_start}
-use Rattle.lt_isa.specs.Shape.{IsShaped}
+use Rattle.lt_isa.specs.Prelude.{Parts, IsInRange, State, Observed, StepResult, Goes, Stops, Faults, step, step_start, IsShaped}
 use Rattle.lt_isa.proofs.Steps.{step_start-least, step-later}
 use Rattle.lt_isa.proofs.Shapes.{step-shaped}
-use Rattle.banks.specs.Accesses.{Access, accessed, accessed_by, accessed_if, accessed_then, accesses_within, accesses_from, at_most_one, AreAccesses}
+use Rattle.banks.specs.Prelude.{Access, accessed, accessed_by, accessed_if, accessed_then, accesses_within, accesses_from, at_most_one, AreAccesses}
 
 -- a step at a place of the code makes the access of the instruction there
 pub accessed-at : (o : Parts) (s : State) (i : Instr)

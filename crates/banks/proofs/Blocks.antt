@@ -9,9 +9,8 @@ use Rattle.std.proofs.lemmas.List.Concat.{flat_map-append}
 use Rattle.std.proofs.Math.Nat.{mul-le-mul_right, zero-mul, suc-mul}
 use Rattle.std.proofs.Math.Seq.{take-add}
 use Rattle.std.specs.List.{range_with_len}
-use Rattle.lt_isa.specs.Machine.{word_in}
-use Rattle.banks.specs.Banks.{block_numbered}
-use Rattle.banks.specs.Blocks.{Blocks, block_of_words, cut, filled_up, in_blocks, words_of_blocks}
+use Rattle.lt_isa.specs.Prelude.{word_in}
+use Rattle.banks.specs.Prelude.{block_numbered, Blocks, block_of_words, cut, filled_up, in_blocks, words_of_blocks}
 
 -- n blocks are cut
 pub length-cut : (w n : ℕ) (words : List ℤ) → length (cut w n words) ≡ n

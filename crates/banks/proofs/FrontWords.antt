@@ -6,7 +6,7 @@ use Rattle.std.specs.Vec.{with_items}
 use Rattle.std.proofs.lemmas.Bool.{cases_lt}
 use Rattle.std.proofs.lemmas.Bool.Decides.{nat_tests}
 use Rattle.std.proofs.lemmas.List.{get_or_past, take_all, with_items_is}
-use Rattle.banks.specs.Blocks.{filled_up}
+use Rattle.banks.specs.Prelude.{filled_up}
 use Rattle.banks.proofs.Blocks.{IsReplaced, filled_up-more, get_or-filled_up}
 
 -- words that are resized to n, and aren't more, are filled up to n

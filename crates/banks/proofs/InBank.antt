@@ -2,7 +2,7 @@
 use Rattle.std.proofs.Common.{◌≡◌, ◌≢◌, ℕ, cond, List, [], ◌∷◌, ◌++◌, Bool, true, false, refl, ap, ◌∙◌}
 use Rattle.std.proofs.lemmas.Bool.{eq-eqb, ne_eqb}
 use Rattle.std.specs.Prelude.{◌==◌}
-use Rattle.banks.specs.Accesses.{Access, in_bank}
+use Rattle.banks.specs.Prelude.{Access, in_bank}
 
 -- the accesses to one bank in two lists of accesses
 pub in_bank-append : (b : ℕ) (xs ys : List Access) → in_bank b (xs ++ ys) ≡ in_bank b xs ++ in_bank b ys

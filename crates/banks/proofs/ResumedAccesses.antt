@@ -3,16 +3,11 @@ use Rattle.std.proofs.Common.{◌≡◌, ℕ, zero, suc, ◌+◌, ◌<◌, ◌�
 use Rattle.std.proofs.lemmas.Bool.{cases_lt}
 use Rattle.std.proofs.lemmas.List.{append_assoc}
 use Rattle.std.proofs.lemmas.List.Elements.{Contains-append_right}
-use Rattle.lt_isa.specs.Object.{Parts}
-use Rattle.lt_isa.specs.Ranges.{IsInRange}
-use Rattle.lt_isa.specs.Machine.{State, Observed, Halted}
-use Rattle.lt_isa.specs.Step.{StepResult, Goes, Stops, Faults, step, step_start}
-use Rattle.lt_isa.specs.Shape.{IsShaped}
-use Rattle.lt_isa.specs.Trace.{HaltsAt, seen_at, stamped, trace_from, final_from}
+use Rattle.lt_isa.specs.Prelude.{Parts, IsInRange, State, Observed, Halted, StepResult, Goes, Stops, Faults, step, step_start, IsShaped, HaltsAt, seen_at, stamped, trace_from, final_from}
 use Rattle.lt_isa.proofs.Runs.{trace_from-goes, trace_from-stops, final_from-past, final_from-goes, final_from-faults}
 use Rattle.lt_isa.proofs.Steps.{step_start-least, step-later}
 use Rattle.lt_isa.proofs.Shapes.{step-shaped}
-use Rattle.banks.specs.Accesses.{ShowsItsAccess, accessed, accesses_from, at_most_one}
+use Rattle.banks.specs.Prelude.{ShowsItsAccess, accessed, accesses_from, at_most_one}
 use Rattle.banks.proofs.ShownAccesses.{shows_its_access}
 use Rattle.banks.proofs.AccessRuns.{accesses_from-past, accesses_from-step}
 

@@ -2,14 +2,11 @@
 use Rattle.std.proofs.Common.{◌≡◌, ℕ, ◌≤◌, zero, suc, Bool, true, false, cond, ℤ, List, Option, Some, None, refl, sym, ap, ◌∙◌, subst, arith}
 use Rattle.std.proofs.lemmas.Bool.{ne_eqb}
 use Rattle.std.specs.Prelude.{slice_get}
-use Rattle.gr_word.specs.Words.{compared}
+use Rattle.gr_word.specs.Prelude.{compared}
 use Rattle.lt_isa.specs.declared.instructions.Instr.{Instr}
 use Rattle.lt_isa.specs.declared.instructions.Instr.TheVariants.{Nop, Halt, Li, Alu, Ldb, Stb, Idb, Ldw, Stw, Jmp, Br}
-use Rattle.lt_isa.specs.Object.{Parts, is_eram, is_ram}
-use Rattle.lt_isa.specs.Machine.{State, Slot, Unbound, Bound, Observed, RamRead, RamWrite, EncRead, EncWrite, Oram, Halted, slot, register, write_event}
-use Rattle.lt_isa.specs.Step.{StepResult, Goes, Stops, Faults, executed, executed_if, step, with_bound}
-use Rattle.banks.specs.Accesses.{Access, ShowsAccess, ShowsItsAccess, access_on, accessed, accessed_by, accessed_if}
-use Rattle.banks.specs.ObliviousEvents.{oblivious}
+use Rattle.lt_isa.specs.Prelude.{Parts, is_eram, is_ram, State, Slot, Unbound, Bound, Observed, RamRead, RamWrite, EncRead, EncWrite, Oram, Halted, slot, register, write_event, StepResult, Goes, Stops, Faults, executed, executed_if, step, with_bound}
+use Rattle.banks.specs.Prelude.{Access, ShowsAccess, ShowsItsAccess, access_on, accessed, accessed_by, accessed_if, oblivious}
 
 -- the event of an access to a block of a bank, by the kind of the bank
 shows_access : (plain sealed : Observed) (b a : ℕ)
@@ -47,10 +44,6 @@ either true one two = refl
 either false one two = refl
 
 executed_shows : (o : Parts) (s : State) (i : Instr) → ShowsItsAccess (executed o s i) (accessed_by o s i)
-executed_shows o s Nop = refl
-executed_shows o s Halt = refl
-executed_shows o s (Li rd value) = refl
-executed_shows o s (Alu op rd ra rb) = refl
 executed_shows o s (Ldb k b r) = (
   _,
   refl,
@@ -61,8 +54,8 @@ executed_shows o s (Stb k) = stored (slot s k) _
 executed_shows o s (Idb rd k) = quiet (slot s k) _
 executed_shows o s (Ldw rd k ro) = quiet (slot s k) _
 executed_shows o s (Stw rs k ro) = quiet (slot s k) _
-executed_shows o s (Jmp offset) = refl
 executed_shows o s (Br cmp ra rb offset) = either (compared cmp (register s ra) (register s rb)) _ _
+executed_shows o s other = refl
 
 -- the event of a step shows the step's access
 pub shows_its_access : (o : Parts) (s : State) → ShowsItsAccess (step o s) (accessed o s)
@@ -98,10 +91,6 @@ event_of_outcome Faults = None
 -- if an event shows an access to an oblivious bank, it names the bank
 bank_shown : (event : Observed) (access : Access)
     → ShowsAccess event access → oblivious event ≡ if_oblivious access.bank
-bank_shown (RamRead block words) access shows = sym (ap if_oblivious shows.0)
-bank_shown (RamWrite block words) access shows = sym (ap if_oblivious shows.0)
-bank_shown (EncRead block) access shows = sym (ap if_oblivious shows.0)
-bank_shown (EncWrite block) access shows = sym (ap if_oblivious shows.0)
 bank_shown (Oram bank) access shows = sym (ap if_oblivious shows.0 ∙ itself bank shows.1)
   where
     itself : (b : ℕ) → 2 ≤ b → if_oblivious b ≡ Some b
@@ -109,6 +98,7 @@ bank_shown (Oram bank) access shows = sym (ap if_oblivious shows.0 ∙ itself ba
     itself (suc zero) two = absurd (omega arith)
     itself (suc (suc i)) two = refl
 bank_shown Halted access shows = absurd shows
+bank_shown other access shows = sym (ap if_oblivious shows.0)
 
 outcome_bank : (outcome : StepResult) (made : Option Access)
     → ShowsItsAccess outcome made → told_bank (event_of_outcome outcome) ≡ made_bank made

@@ -20,17 +20,9 @@ access_on (Bound b a words) = Some (record { bank = b; block = a })
 
 -- the access that an instruction makes, if it makes one
 abbrev pub accessed_by : Parts → State → Instr → Option Access
-accessed_by o s Nop = None
-accessed_by o s Halt = None
-accessed_by o s (Li rd value) = None
-accessed_by o s (Alu op rd ra rb) = None
 accessed_by o s (Ldb k b r) = Some (record { bank = b; block = block_named o b (register s r) })
 accessed_by o s (Stb k) = access_on (slot s k)
-accessed_by o s (Idb rd k) = None
-accessed_by o s (Ldw rd k ro) = None
-accessed_by o s (Stw rs k ro) = None
-accessed_by o s (Jmp offset) = None
-accessed_by o s (Br cmp ra rb offset) = None
+accessed_by o s other = None
 
 abbrev pub accessed_if : Parts → State → Option Instr → Option Access
 accessed_if o s None = None

@@ -6,12 +6,8 @@ use Rattle.lt_isa.specs.Trace.{Stamped}
 
 -- the oblivious bank that an event accesses
 abbrev pub oblivious : Observed → Option ℕ
-oblivious (RamRead block words) = None
-oblivious (RamWrite block words) = None
-oblivious (EncRead block) = None
-oblivious (EncWrite block) = None
 oblivious (Oram bank) = Some bank
-oblivious Halted = None
+oblivious other = None
 
 -- the number of events that are accesses to oblivious bank b
 abbrev pub if_it_is : ℕ → Option ℕ → ℕ

@@ -1,5 +1,5 @@
 ghost use Rattle.std.specs.Prelude.{◌≡◌, ◌<◌, List, ℕ, ℤ, [], ◌∷◌, ◌++◌, length, slice_set};
-ghost use Rattle.lt_isa.specs.Machine.{word_in};
+ghost use Rattle.lt_isa.specs.Prelude.{word_in};
 ghost use Rattle.banks.specs.Banks.{AreLeaves, block_numbered, no_leaves, one_leaf};
 
 /// The paths that an access to an oblivious bank showed, each given by its leaf. The first `len` entries of `at`, at

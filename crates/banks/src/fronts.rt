@@ -1,20 +1,4 @@
-ghost use Rattle.std.specs.Prelude.{
-  ◌≡◌,
-  ℕ,
-  ◌+◌,
-  ◌-◌,
-  ◌<◌,
-  ◌≤◌,
-  ◌^◌,
-  ◌&&◌,
-  nat_le,
-  nat_lt,
-  if◌then◌else◌,
-  pos,
-  length,
-  slice_index_or,
-  vec_capacity,
-};
+ghost use Rattle.std.specs.Prelude.{◌≡◌, ℕ, ◌+◌, ◌-◌, ◌<◌, ◌≤◌, ◌^◌, ◌&&◌, nat_le, nat_lt, if◌then◌else◌, pos, length, slice_index_or, vec_capacity};
 ghost use Rattle.banks.specs.Blocks.{filled_up};
 
 /// A word by its number, or 0 if there is no such word.

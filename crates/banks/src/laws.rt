@@ -1,11 +1,6 @@
 ghost use Rattle.std.specs.Prelude.{◌≡◌, ℕ, ◌<◌, ◌≤◌, List, length};
 ghost use Rattle.std.specs.List.{All};
-ghost use Rattle.lt_isa.specs.Machine.{State};
-ghost use Rattle.lt_isa.specs.Object.{Parts, blocks_of};
-ghost use Rattle.lt_isa.specs.Ranges.{IsInRange};
-ghost use Rattle.lt_isa.specs.Shape.{IsShaped};
-ghost use Rattle.lt_isa.specs.Step.{step};
-ghost use Rattle.lt_isa.specs.Trace.{trace_from};
+ghost use Rattle.lt_isa.specs.Prelude.{State, Parts, blocks_of, IsInRange, IsShaped, step, trace_from};
 ghost use Rattle.banks.specs.Accesses.{Access, AreAccesses, ShowsItsAccess, accessed, accesses_from, in_bank};
 ghost use Rattle.banks.specs.ObliviousEvents.{accesses_shown};
 

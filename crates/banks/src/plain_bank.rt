@@ -1,5 +1,5 @@
 ghost use Rattle.std.specs.Prelude.{◌≡◌, ◌<◌, ◌≤◌, ◌+◌, ◌*◌, ◌/◌, ◌%◌, ◌^◌, ◌∷◌, List, ℕ, length, map, slice_set, vec_capacity};
-ghost use Rattle.lt_isa.specs.Machine.{word_in};
+ghost use Rattle.lt_isa.specs.Prelude.{word_in};
 ghost use Rattle.banks.specs.Banks.{AreLeaves, block_numbered, no_leaves};
 ghost use Rattle.banks.specs.Blocks.{cut, filled_up, in_blocks};
 

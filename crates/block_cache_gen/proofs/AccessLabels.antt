@@ -6,16 +6,13 @@ use Rattle.gr_word.specs.declared.operations.Op.TheVariants.{Add, Remu, Shr}
 use Rattle.gr_word.specs.declared.operations.Cmp.TheVariants.{Eq, Lt}
 use Rattle.lt_isa.specs.declared.instructions.Instr.{Instr}
 use Rattle.lt_isa.specs.declared.instructions.Instr.TheVariants.{Li, Alu}
-use Rattle.lt_isa.specs.Object.{Parts}
-use Rattle.trace_patterns.specs.Known.{Known, is_secret, bank_known, set_secret, set_bank, FitsClaim}
-use Rattle.trace_patterns.specs.Rules.{Falls, shows_block, claimed_at}
+use Rattle.lt_isa.specs.Prelude.{Parts}
+use Rattle.trace_patterns.specs.Prelude.{Known, is_secret, bank_known, set_secret, set_bank, FitsClaim, Falls, shows_block, claimed_at}
 use Rattle.stretches.proofs.Passed.{GoesOn, NoMore, One, goes-then, rules-li, rules-alu, rules-idb, rules-ldb, branch-falls, secret-same, secret-other}
 use Rattle.gr_word.specs.declared.variables.Label.TheVariants.{Public}
-use Rattle.held_registers.specs.Held.{IsSoundHeld}
+use Rattle.held_registers.specs.Prelude.{IsSoundHeld}
 use Rattle.held_registers.proofs.Found.{number-held}
-use Rattle.block_cache_gen.specs.Carries.{Carries}
-use Rattle.block_cache_gen.specs.Homes.{Home, Setting, label_by}
-use Rattle.block_cache_gen.specs.Codes.{operand_part, operand_register, held_number, applied_code, reducing, reducer, least_word, compared_code, reduced_code, shift_code, fixed_code, load_code}
+use Rattle.block_cache_gen.specs.Prelude.{Carries, Home, Setting, label_by, operand_part, operand_register, held_number, applied_code, reducing, reducer, least_word, compared_code, reduced_code, shift_code, fixed_code, load_code}
 use Rattle.block_cache_gen.proofs.KeptRegisters.{SameBelow, same-itself, same-lower, same-set, same-then, carries-same, or_false}
 
 -- After straight code a register and the next have a label, and the registers below are as before.

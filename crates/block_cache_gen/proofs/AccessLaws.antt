@@ -1,11 +1,9 @@
 -- Accesses, one after another: the slots that they leave, and what is seen of them.
 use Rattle.std.proofs.Common.{◌≡◌, false, ◌&&◌, cond, List, [], ◌∷◌, ◌++◌, get_or, refl, sym, ap, ◌∙◌, append_assoc}
-use Rattle.lt_isa.specs.Machine.{Slot, Unbound, read_event}
+use Rattle.lt_isa.specs.Prelude.{Slot, Unbound, read_event}
 use Rattle.block_cache_gen.specs.declared.frames.Mode.{Mode}
 use Rattle.block_cache_gen.specs.declared.frames.Mode.TheVariants.{Public, Real, Mirrored}
-use Rattle.block_cache_gen.specs.Homes.{Home}
-use Rattle.block_cache_gen.specs.Codes.{skips}
-use Rattle.block_cache_gen.specs.Accesses.{ArrayAccess, Banks, block_in, slots_after, is_held, may_skip, seen_of, seen_of_all}
+use Rattle.block_cache_gen.specs.Prelude.{Home, skips, ArrayAccess, Banks, block_in, slots_after, is_held, may_skip, seen_of, seen_of_all}
 
 -- the slots after some accesses and then others
 pub slots_after-append : (banks : Banks) (slots : List Slot) (first bs : List ArrayAccess)

@@ -3,34 +3,23 @@ use Rattle.std.proofs.Common.{◌≡◌, ◌≢◌, ℕ, ◌+◌, ◌/◌, ◌%�
 use Rattle.std.proofs.lemmas.Bool.{cases_Bool, and_from, and_right, false≢true}
 use Rattle.std.proofs.lemmas.List.{set-get_or, get_or-set_same}
 use Rattle.std.proofs.lemmas.Option.{none-some, cond_some}
-use Rattle.gr_word.specs.Words.{compared, unsigned_of}
+use Rattle.gr_word.specs.Prelude.{compared, unsigned_of}
 use Rattle.gr_word.specs.declared.variables.Label.{Label}
 use Rattle.gr_word.specs.declared.variables.Shape.TheVariants.{Array}
 use Rattle.gr_word.specs.declared.operations.Cmp.TheVariants.{Eq}
 use Rattle.lt_isa.specs.declared.instructions.Instr.{Instr}
 use Rattle.lt_isa.specs.declared.instructions.Instr.TheVariants.{Ldb, Idb, Br}
-use Rattle.lt_isa.specs.Object.{Parts, blocks_of}
-use Rattle.lt_isa.specs.Ranges.{IsInRange}
-use Rattle.lt_isa.specs.Machine.{State, Slot, Unbound, Bound, register, slot, set_slot, read_event}
-use Rattle.lt_isa.specs.Shape.{IsShaped}
-use Rattle.lt_isa.specs.Step.{block_named}
-use Rattle.stretches.specs.Standing.{StandsAt, greatest_costs}
-use Rattle.stretches.specs.Coming.{RunsThrough, Sets}
+use Rattle.lt_isa.specs.Prelude.{Parts, blocks_of, IsInRange, State, Slot, Unbound, Bound, register, slot, set_slot, read_event, IsShaped, block_named}
+use Rattle.stretches.specs.Prelude.{StandsAt, greatest_costs, RunsThrough, Sets}
 use Rattle.stretches.proofs.Standing.{standing-head}
 use Rattle.stretches.proofs.Coming.{comes-ldb, comes-br_taken, comes-br_on, comes-weaker}
 use Rattle.stretches.proofs.RunningThrough.{runs-cons, runs-one, runs-append, runs-weaker, sets-idb}
-use Rattle.src_tree.specs.Contexts.{context_of}
-use Rattle.src_tree.specs.Meaning.{Store, evaluated}
-use Rattle.src_tree.specs.Trees.{Tree, Number, Variable, Element, Operation}
+use Rattle.src_tree.specs.Prelude.{context_of, Store, evaluated, Tree, Number, Variable, Element, Operation}
 use Rattle.scratch_alloc.proofs.Serving.{serves-within}
 use Rattle.block_cache_gen.specs.declared.frames.Mode.{Mode}
 use Rattle.block_cache_gen.specs.declared.frames.Mode.TheVariants.{Public, Real, Mirrored}
 use Rattle.block_cache_gen.specs.declared.indexes.Numbering.{Numbering}
-use Rattle.block_cache_gen.specs.Homes.{Home, Setting, HasHomes, home_of, words_a_block}
-use Rattle.block_cache_gen.specs.Codes.{numbered_register, skips, is_cached, fixed_index, fixed_word, located_code, fixed_code, numbered_code, shift_code, load_code, access_by}
-use Rattle.block_cache_gen.specs.StandsFor.{StandsFor, FitsHomes, IsBlockOf}
-use Rattle.block_cache_gen.specs.Accesses.{ArrayAccess, access_of, accesses, word_number, block_in, slots_after, may_skip, is_held, seen_of, seen_of_all}
-use Rattle.block_cache_gen.specs.LeavesWord.{LeavesWord}
+use Rattle.block_cache_gen.specs.Prelude.{Home, Setting, HasHomes, home_of, words_a_block, numbered_register, skips, is_cached, fixed_index, fixed_word, located_code, fixed_code, numbered_code, shift_code, load_code, access_by, StandsFor, FitsHomes, IsBlockOf, ArrayAccess, access_of, accesses, word_number, block_in, slots_after, may_skip, is_held, seen_of, seen_of_all, LeavesWord}
 use Rattle.block_cache_gen.proofs.AccessLaws.{slots_after-append, seen_of_all-append, may_skip-is, seen_of-unskipped}
 use Rattle.block_cache_gen.proofs.HomeFacts.{serves-cached, block-of, block-exists, block-small, profile-fits}
 use Rattle.block_cache_gen.proofs.Stands.{stands-like, stands-loaded}

@@ -7,25 +7,18 @@ use Rattle.gr_word.specs.declared.operations.Op.TheVariants.{Add, Sub, Mul, Div,
 use Rattle.gr_word.specs.declared.variables.Label.TheVariants.{Secret}
 use Rattle.gr_word.specs.declared.variables.Shape.TheVariants.{Array}
 use Rattle.lt_isa.specs.declared.profiles.Profile.{Profile}
-use Rattle.lt_isa.specs.Object.{Parts, is_ram, is_eram}
-use Rattle.lt_isa.specs.Costs.{operation_cost}
-use Rattle.symbolic_values.specs.Trees.{Value}
-use Rattle.src_tree.specs.Contexts.{context_of}
-use Rattle.src_tree.specs.Trees.{Tree, Number, Statement}
-use Rattle.src_tree.specs.Typing.{UsedAs, TypedTree, TypedStatement}
-use Rattle.trace_patterns.specs.Events.{Oram}
-use Rattle.stretches.specs.Shows.{Show, Gap, Seen, pattern_of}
-use Rattle.trace_patterns.specs.SymStates.{SymSlot, OramSlot}
-use Rattle.block_cache_gen.specs.Homes.{further_slots, Home, Setting, home_of, register_for, HasHomes}
-use Rattle.block_cache_gen.specs.Codes.{has_offset, is_cached, is_masked, is_within_home, is_power, literal, fixed_index, held_number, reducing, reducer, operand, operand_part, operand_unless, left_operand, steps_at, straight}
-use Rattle.strength_reduction.specs.Steps.{Step}
+use Rattle.lt_isa.specs.Prelude.{Parts, is_ram, is_eram, operation_cost}
+use Rattle.symbolic_values.specs.Prelude.{Value}
+use Rattle.src_tree.specs.Prelude.{context_of, Tree, Number, Statement, UsedAs, TypedTree, TypedStatement}
+use Rattle.trace_patterns.specs.Prelude.{Oram, SymSlot, OramSlot}
+use Rattle.stretches.specs.Prelude.{Show, Gap, Seen, pattern_of}
+use Rattle.block_cache_gen.specs.Prelude.{further_slots, Home, Setting, home_of, register_for, HasHomes, has_offset, is_cached, is_masked, is_within_home, is_power, literal, fixed_index, held_number, reducing, reducer, operand, operand_part, operand_unless, left_operand, steps_at, straight, index_by, store_shows, shows_among, read_shows_by, read_shows, stored_shows_by, stored_shows, applied_shows, operand_tree, scalar_shows, write_shows, operation_gap, word_shows, block_tree, found_shows, plain_loaded, encrypted_loaded, block_loaded, load_shows, placed_shows, shows_by, loads_by, Loads, then_loads, one_load, index_loads, no_loads, operation_shows, operation_loads, element_slot, access_shows, access_loads, tree_of_expr, shows_of_expr, slots_of_expr, shows_of_set, slots_of_set, pattern_of_expr, pattern_of_set, scalar_set_shows, is_product, AreNumbersAlike, InOneBank, AreNumberedAlike, BothWithin, BothReduced, AreReducedAlike, Residents, ToResidents, Alike, Numbers, Scalars, Oblivious, Same, Operations, ByNumber, Pair, ToScalars, ToOblivious, ToSame}
+use Rattle.strength_reduction.specs.Prelude.{Step}
 use Rattle.block_cache_gen.proofs.StepsAt.{not-stepped}
-use Rattle.block_cache_gen.specs.PatternsOf.{index_by, store_shows, shows_among, read_shows_by, read_shows, stored_shows_by, stored_shows, applied_shows, operand_tree, scalar_shows, write_shows, operation_gap, word_shows, block_tree, found_shows, plain_loaded, encrypted_loaded, block_loaded, load_shows, placed_shows, shows_by, loads_by, Loads, then_loads, one_load, index_loads, no_loads, operation_shows, operation_loads, element_slot, access_shows, access_loads, tree_of_expr, shows_of_expr, slots_of_expr, shows_of_set, slots_of_set, pattern_of_expr, pattern_of_set, scalar_set_shows}
-use Rattle.block_cache_gen.specs.Alike.{is_product, AreNumbersAlike, InOneBank, AreNumberedAlike, BothWithin, BothReduced, AreReducedAlike, Residents, ToResidents, Alike, Numbers, Scalars, Oblivious, Same, Operations, ByNumber, Pair, ToScalars, ToOblivious, ToSame}
-use Rattle.word_selection.specs.Selection as selection
-use Rattle.scalar_ranges.specs.Known.{is_within}
+use Rattle.scalar_ranges.specs.Prelude.{is_within}
 use Rattle.bank_alloc.proofs.Apart.{scalar_bank-lt}
 use Rattle.block_cache_gen.proofs.HomeFacts.{serves-oblivious}
+use Rattle.word_selection.specs.Selection as selection
 
 -- operations that are both products, or neither, take the same cycles
 abbrev kind_cost : Profile → Bool → ℕ
@@ -205,11 +198,7 @@ write-alike f None (Some q) same = absurd (let e : false ≡ true = same in cc)
 alike-held : (f : Setting) (a b : Tree) → Alike f a b → is_some (operand f a) ≡ is_some (operand f b)
 alike-held f a b (Numbers y z one) = one
 alike-held f a b (Scalars x y one) = one
-alike-held f a b (Oblivious x y k l one alike) = refl
-alike-held f a b (Residents x y k l one alike) = refl
-alike-held f a b (Same x k cached) = refl
-alike-held f a b (Operations op oq l r m s plain other kind left right) = refl
-alike-held f a b (ByNumber op l m z left) = refl
+alike-held f a b other = refl
 
 unless-alike : (never : Bool) (one other : Option ℕ) → is_some one ≡ is_some other
     → is_some (operand_unless never one) ≡ is_some (operand_unless never other)
@@ -417,8 +406,6 @@ module _ (o : Parts) (f : Setting) (homes : HasHomes o f) where
 
   pub alike-slots : (a b : Tree) → Alike f a b → TypedTree (context_of f.decls) a → TypedTree (context_of f.decls) b
       → slots_of_expr f a ≡ slots_of_expr f b
-  alike-slots a b (Numbers y z one) left right = refl
-  alike-slots a b (Scalars x y one) left right = refl
   alike-slots a b (Oblivious x y i j one alike) left right =
       both-loads x y i j (is_near f x i) (is_near f y j) (index_tree (is_near f x i) f x i)
       (index_tree (is_near f y j) f y j)
@@ -426,7 +413,6 @@ module _ (o : Parts) (f : Setting) (homes : HasHomes o f) where
   alike-slots a b (Residents x y i j one alike) left right =
       resident-loads x y i j (is_near f x i) (is_near f y j) (index_tree (is_near f x i) f x i)
       (index_tree (is_near f y j) f y j) one alike (alike-slots i j alike left.1.0 right.1.0)
-  alike-slots a b (Same x i cached) left right = refl
   alike-slots a b (Operations op oq l r m s plain other kind one two) left right =
       let first = alike-slots l m one left.0 right.0 in
       let second = alike-slots r s two left.1 right.1 in
@@ -439,6 +425,7 @@ module _ (o : Parts) (f : Setting) (homes : HasHomes o f) where
   alike-slots a b (ByNumber op l m z one) left right =
       ap (λ (loads : Loads). then_loads loads (operation_loads (steps_at f op (Number z)) no_loads))
       (alike-slots l m one left.0 right.0)
+  alike-slots a b other left right = refl
 
   pub alike-patterns : (a b : Tree) → Alike f a b → TypedTree (context_of f.decls) a
       → TypedTree (context_of f.decls) b → pattern_of_expr f a ≡ pattern_of_expr f b

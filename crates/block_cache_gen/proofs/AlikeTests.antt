@@ -1,18 +1,16 @@
 -- The tests of alike expressions and of assignments that pair say what the relations say, and the count is that of the
 -- most statements that pair.
 use Rattle.std.proofs.Common.{length, ◌≡◌, ℕ, ◌+◌, ◌≤◌, ◌==◌, Bool, true, false, not, ◌&&◌, ◌||◌, nat_lt, nat_le, ℤ, pos, List, refl, sym, ap, ◌∙◌, subst, ◌⊎◌, inl, inr, ⊎_elim, arith}
-use Rattle.std.specs.Prelude.{◌↔◌, if◌then◌else◌, is_some, bytes_eq}
+use Rattle.std.specs.Prelude.{if◌then◌else◌, is_some, bytes_eq}
 use Rattle.std.specs.Bool.{Decides}
 use Rattle.std.proofs.lemmas.Bool.{and_parts, and_from, or_cases, eqb-true, eq-eqb, ltb-true, lt-ltb, leb-true, le-leb, or_left, or_right}
 use Rattle.std.proofs.lemmas.Bool.Decides.{Decides-and, Decides-eqb, Decides-int_eq, Decides-or}
 use Rattle.std.proofs.lemmas.Slice.Eq.{bytes_eq-Decides}
-use Rattle.symbolic_values.specs.Sameness.{same_op}
+use Rattle.symbolic_values.specs.Prelude.{same_op}
 use Rattle.symbolic_values.proofs.TreeEquality.{same_op-true, same_op-own}
-use Rattle.src_tree.specs.Trees.{Tree, Number, Variable, Element, Operation, Statement, SetVariable, SetElement, Block, Nothing, Then}
-use Rattle.block_cache_gen.specs.Homes.{further_slots, Setting, home_of}
-use Rattle.block_cache_gen.specs.Codes.{is_cached, is_masked, is_within_home, may_step, operand, held_number, reducer, straight}
+use Rattle.src_tree.specs.Prelude.{Tree, Number, Variable, Element, Operation, Statement, SetVariable, SetElement, Block, Nothing, Then}
+use Rattle.block_cache_gen.specs.Prelude.{further_slots, Setting, home_of, is_cached, is_masked, is_within_home, may_step, operand, held_number, reducer, straight, is_product, AreNumbersAlike, numbers_alike, AreHeldAlike, held_alike, InOneBank, AreNumberedAlike, BothWithin, BothReduced, numbered_alike, AreReducedAlike, Residents, ToResidents, same_flag, reduced_alike, Alike, Numbers, Scalars, Oblivious, Same, Operations, ByNumber, Pair, ToScalars, ToOblivious, ToSame, StartsPaired, NonePaired, OnePaired, IsPairCount, is_same, in_one_bank, in_step, both_products, are_plain, is_same_number, by_same_number, is_alike, straight_alike, is_pair, pair_count}
 use Rattle.gr_word.specs.declared.operations.Op.{Op}
-use Rattle.block_cache_gen.specs.Alike.{is_product, AreNumbersAlike, numbers_alike, AreHeldAlike, held_alike, InOneBank, AreNumberedAlike, BothWithin, BothReduced, numbered_alike, AreReducedAlike, Residents, ToResidents, same_flag, reduced_alike, Alike, Numbers, Scalars, Oblivious, Same, Operations, ByNumber, Pair, ToScalars, ToOblivious, ToSame, StartsPaired, NonePaired, OnePaired, IsPairCount, is_same, in_one_bank, in_step, both_products, are_plain, is_same_number, by_same_number, is_alike, straight_alike, is_pair, pair_count}
 
 -- expressions as they stand
 same-true : (a b : Tree) → is_same a b ≡ true → a ≡ b
@@ -282,9 +280,6 @@ module _ (f : Setting) where
       (or_left (by_same_number op (Number z) op (Number z)) both
       (and_from (same_op op op) (is_same_number (Number z) (Number z)) (same_op-own op) ((Decides-int_eq z z).1 refl)))
 
-  pub alike_decides : (a b : Tree) → (is_alike f a b ≡ true) ↔ Alike f a b
-  alike_decides a b = (alike-true a b, alike-own a b)
-
   -- assignments that pair
   pair-true : (s t : Statement) → is_pair f s t ≡ true → Pair f s t
   pair-true (SetVariable x e) (SetVariable y g) held =
@@ -347,9 +342,6 @@ module _ (f : Setting) where
       (((home_of f x).bank == 1) && (bytes_eq x x && is_same i i))
       (and_from ((home_of f x).bank == 1) (bytes_eq x x && is_same i i) (eq-eqb (home_of f x).bank 1 encrypted)
       (element-own x i)))
-
-  pub pair_decides : (s t : Statement) → (is_pair f s t ≡ true) ↔ Pair f s t
-  pair_decides s t = (pair-true s t, pair-own s t)
 
   -- how many pair
   counted : (s t : Statement) (a b : Block) (held : Bool) → is_pair f s t ≡ held → IsPairCount f a b (pair_count f a b)

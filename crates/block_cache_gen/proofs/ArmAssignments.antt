@@ -11,48 +11,37 @@ use Rattle.lt_isa.specs.declared.instructions.Instr.{Instr}
 use Rattle.lt_isa.specs.declared.instructions.Instr.TheVariants.{Li, Alu, Ldw, Stw, Stb}
 use Rattle.gr_word.specs.declared.operations.Op.{Op}
 use Rattle.gr_word.specs.declared.operations.Op.TheVariants.{Add}
-use Rattle.lt_isa.specs.Object.{Parts}
-use Rattle.symbolic_values.specs.Trees.{Value, Const}
-use Rattle.src_tree.specs.Contexts.{context_of}
-use Rattle.src_tree.specs.Labels.{label_or_public, label_at, label_of}
-use Rattle.src_tree.specs.Heights.{height_of}
-use Rattle.src_tree.specs.Limits.{LowStatement}
-use Rattle.src_tree.specs.Trees.{Tree, Operation, Statement, SetVariable, SetElement, Choice, Loop}
-use Rattle.src_tree.specs.Typing.{Flows, TypedTree, TypedStatement}
-use Rattle.stretches.specs.Shows.{Show, Gap}
-use Rattle.trace_patterns.specs.SymStates.{SymSlot, AnySlot, RamSlot, EramSlot, OramSlot, SymState, tree_held, slot_held, slot_bank}
+use Rattle.lt_isa.specs.Prelude.{Parts}
+use Rattle.symbolic_values.specs.Prelude.{Value, Const}
+use Rattle.src_tree.specs.Prelude.{context_of, label_or_public, label_at, label_of, height_of, LowStatement, Tree, Operation, Statement, SetVariable, SetElement, Choice, Loop, Flows, TypedTree, TypedStatement}
+use Rattle.stretches.specs.Prelude.{Show, Gap}
+use Rattle.trace_patterns.specs.Prelude.{SymSlot, AnySlot, RamSlot, EramSlot, OramSlot, SymState, tree_held, slot_held, slot_bank, applied_trees}
 use Rattle.stretches.proofs.ArmCode.{Walked, walked-none, walked-then}
 use Rattle.block_cache_gen.specs.declared.frames.Mode.{Mode}
-use Rattle.block_cache_gen.specs.declared.frames.Mode.TheVariants as modes
-use Rattle.block_cache_gen.specs.Homes.{further_slots, Setting, home_of, pin_of, slot_of_word, words_a_block, HasHomes, register_for}
+use Rattle.block_cache_gen.specs.Prelude.{further_slots, Setting, home_of, pin_of, slot_of_word, words_a_block, HasHomes, register_for, effect_of, fixed_word, stored_among, stored_by, may_skip_loads, fixed_index, expr_code, access_by, placed_code, store_code, stored_code, set_code, is_within_home, numbering_by, numbering, operand, operand_part, operand_register, operand_unless, indexed_code, write_code, target, keeps_label, straight, straight_code, scalar_set, CarriesInArm, IndexIsPublic, HasPublicIndexes, SetHasPublicIndexes, write_shows, operand_tree, index_by, word_gap, word_shows, block_tree, number_tree, store_shows, shows_among, stored_shows_by, stored_shows, Loads, no_loads, then_loads, element_slot, placed_shows, placed_tree, index_loads, shows_by, loads_by, tree_of_expr, shows_of_expr, slots_of_expr, shows_of_set, slots_of_set, operation_gap, operation_tree, operation_shows, operation_loads, scalar_set_shows}
 use Rattle.block_cache_gen.specs.declared.indexes.Numbering.{Numbering}
-use Rattle.block_cache_gen.specs.Codes.{effect_of, fixed_word, stored_among, stored_by, may_skip_loads, fixed_index, expr_code, access_by, placed_code, store_code, stored_code, set_code, is_within_home, numbering_by, numbering, operand, operand_part, operand_register, operand_unless, indexed_code, write_code, target, keeps_label, straight, straight_code, scalar_set}
-use Rattle.block_cache_gen.specs.Carries.{CarriesInArm}
-use Rattle.block_cache_gen.specs.PublicIndexes.{IndexIsPublic, HasPublicIndexes, SetHasPublicIndexes}
-use Rattle.block_cache_gen.specs.PatternsOf.{write_shows, operand_tree, index_by, word_gap, word_shows, block_tree, number_tree, store_shows, shows_among, stored_shows_by, stored_shows, Loads, no_loads, then_loads, element_slot, placed_shows, placed_tree, index_loads, shows_by, loads_by, tree_of_expr, shows_of_expr, slots_of_expr, shows_of_set, slots_of_set, operation_gap, operation_tree, operation_shows, operation_loads, scalar_set_shows}
 use Rattle.lt_checker.proofs.Singles.{IsKnown, IsHidden}
 use Rattle.lt_isa.specs.declared.profiles.Profile.{Profile}
-use Rattle.word_selection.specs.Selection as selection
-use Rattle.word_selection.specs.Selection.{selected_write}
-use Rattle.word_selection.specs.SlotSteps.{IsOutside}
+use Rattle.word_selection.specs.Prelude.{selected_write, IsOutside}
 use Rattle.word_selection.proofs.WriteLaws.{walks-write}
 use Rattle.block_cache_gen.proofs.HeldOperands.{operand-outside}
 use Rattle.block_cache_gen.proofs.SpreadArms.{secret-bank, each-bank, word-bank, fixed-within}
 use Rattle.block_cache_gen.proofs.SomeCode.{numbering-secret}
 use Rattle.block_cache_gen.proofs.ArmInstructions.{loaded-bank, sets-ldw, walked-stw, walked-stb, sets-alu}
 use Rattle.block_cache_gen.proofs.ArmStates.{LeavesIn, then_loads-held, carries-same, carries-copied}
-use Rattle.held_registers.specs.Held.{secret_zero}
+use Rattle.held_registers.specs.Prelude.{secret_zero}
 use Rattle.held_registers.proofs.Copies.{hidden_copy}
 use Rattle.block_cache_gen.proofs.HeldLabels.{register-label, register-low, zero-label}
 use Rattle.block_cache_gen.proofs.HomeFacts.{offset-none, shows-cached}
 use Rattle.block_cache_gen.proofs.PublicTrees.{is-index, block-seen, public-index}
-use Rattle.trace_patterns.specs.Single.{applied_trees}
-use Rattle.strength_reduction.specs.Steps.{Step}
+use Rattle.strength_reduction.specs.Prelude.{Step}
 use Rattle.std.specs.Prelude.{is_some}
 use Rattle.block_cache_gen.proofs.StraightCodes.{IsStraight, straight-by}
 use Rattle.block_cache_gen.proofs.SecretTrees.{tree-hidden}
 use Rattle.block_cache_gen.proofs.ArmExpressions.{operand-stays, access-leaves, placed-leaves, number-leaves, operand-leaves, index-apart, index-own, expr-leaves}
 use Rattle.block_cache_gen.proofs.OperandLabels.{is-operand}
+use Rattle.block_cache_gen.specs.declared.frames.Mode.TheVariants as modes
+use Rattle.word_selection.specs.Selection as selection
 
 -- A stretch of secret code is walked from s: it shows this, keeps what the setting relies on, and leaves this in the
 -- slots.
@@ -73,9 +62,7 @@ stored-of_bank (OramSlot other) bank e ne = tt
 
 bound-of_stored : (bound : SymSlot) → IsHidden bound → IsKnown bound
 bound-of_stored AnySlot h = h
-bound-of_stored (RamSlot block origin) h = tt
-bound-of_stored (EramSlot block) h = tt
-bound-of_stored (OramSlot bank) h = tt
+bound-of_stored other h = tt
 
 -- so is the slot of a resident secret variable
 resident-hidden : (o : Parts) (f : Setting) → HasHomes o f → (s : SymState) (x : List ℕ) (shape : Shape)

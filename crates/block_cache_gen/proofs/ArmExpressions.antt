@@ -9,34 +9,26 @@ use Rattle.gr_word.specs.declared.variables.Label.TheVariants.{Public}
 use Rattle.gr_word.specs.declared.variables.Shape.TheVariants.{Scalar, Array}
 use Rattle.lt_isa.specs.declared.instructions.Instr.{Instr}
 use Rattle.lt_isa.specs.declared.instructions.Instr.TheVariants.{Li, Alu, Ldw}
-use Rattle.lt_isa.specs.Object.{Parts, blocks_of}
-use Rattle.symbolic_values.specs.Trees.{Value, Const, Reg}
-use Rattle.src_tree.specs.Contexts.{context_of}
-use Rattle.src_tree.specs.Heights.{height_of}
-use Rattle.src_tree.specs.Trees.{Tree, Number, Variable, Element, Operation, Test}
-use Rattle.src_tree.specs.Typing.{UsedAs, TypedTree, TypedTest}
-use Rattle.stretches.specs.Shows.{Show, Gap}
-use Rattle.trace_patterns.specs.SymStates.{SymSlot, AnySlot, SymState, tree_held, slot_held, hold_slot}
-use Rattle.trace_patterns.specs.Single.{applied_trees}
+use Rattle.lt_isa.specs.Prelude.{Parts, blocks_of}
+use Rattle.symbolic_values.specs.Prelude.{Value, Const, Reg}
+use Rattle.src_tree.specs.Prelude.{context_of, height_of, Tree, Number, Variable, Element, Operation, Test, UsedAs, TypedTree, TypedTest}
+use Rattle.stretches.specs.Prelude.{Show, Gap}
+use Rattle.trace_patterns.specs.Prelude.{SymSlot, AnySlot, SymState, tree_held, slot_held, hold_slot, applied_trees}
 use Rattle.stretches.proofs.ArmCode.{Walked, walked-none, walked-then}
 use Rattle.block_cache_gen.specs.declared.frames.Mode.{Mode}
-use Rattle.block_cache_gen.specs.Homes.{Home, Setting, home_of, words_a_block, blocks_set, HasHomes, held_label, label_by, register_for}
+use Rattle.block_cache_gen.specs.Prelude.{Home, Setting, home_of, words_a_block, blocks_set, HasHomes, held_label, label_by, register_for, read_by, read_code, may_skip_loads, is_cached, held_number, applied_code, reducing, reducer, is_within_home, numbering_by, is_in_place, numbered_code, numbered_register, has_offset, fixed_index, fixed_word, scalar_code, reduced_code, shift_code, offset_code, placed_code, fixed_code, located_code, load_code, skips, access_by, operand, operand_part, operand_register, operand_unless, indexed_code, operation_code, steps_at, expr_code, guard_code, CarriesInArm, shows_index, HasPublicIndexes, TestHasPublicIndexes, read_shows_by, pinned_slot, number_in, applied_shows, reduced_shows, numbered_shows, index_by, shifted_shows, operation_gap, word_gap, word_read, tree_by, scalar_shows, offset_shows, scalar_tree, operand_tree, reduced_tree, numbered_tree, number_tree, shifted_tree, block_tree, placed_shows, placed_tree, shows_by, loads_by, element_by, found_shows, load_shows, Loads, no_loads, then_loads, one_load, index_loads, element_slot, step_gap, steps_tree, operation_tree, operation_shows, operation_loads, tree_of_expr, shows_of_expr, slots_of_expr, shows_of_test, slots_of_test}
 use Rattle.block_cache_gen.specs.declared.indexes.Numbering.{Numbering}
-use Rattle.block_cache_gen.specs.Codes.{read_by, read_code, may_skip_loads, is_cached, held_number, applied_code, reducing, reducer, is_within_home, numbering_by, is_in_place, numbered_code, numbered_register, has_offset, fixed_index, fixed_word, scalar_code, reduced_code, shift_code, offset_code, placed_code, fixed_code, located_code, load_code, skips, access_by, operand, operand_part, operand_register, operand_unless, indexed_code, operation_code, steps_at, expr_code, guard_code}
 use Rattle.lt_isa.specs.declared.profiles.Profile.{Profile}
-use Rattle.strength_reduction.specs.Steps.{Step, Constant, Compute, StepFits, reads_known, numbered, code_of}
+use Rattle.strength_reduction.specs.Prelude.{Step, Constant, Compute, StepFits, reads_known, numbered, code_of}
 use Rattle.strength_reduction.proofs.Replacing.{result-alike}
 use Rattle.step_code.proofs.StepWalks.{steps_show, walks-steps}
 use Rattle.src_tree.proofs.TreeHeights.{height-some}
 use Rattle.block_cache_gen.proofs.SomeCode.{numbering-secret}
 use Rattle.block_cache_gen.proofs.StepsAt.{steps-of}
-use Rattle.block_cache_gen.specs.Carries.{CarriesInArm}
-use Rattle.block_cache_gen.specs.PublicIndexes.{shows_index, HasPublicIndexes, TestHasPublicIndexes}
-use Rattle.block_cache_gen.specs.PatternsOf.{read_shows_by, pinned_slot, number_in, applied_shows, reduced_shows, numbered_shows, index_by, shifted_shows, operation_gap, word_gap, word_read, tree_by, scalar_shows, offset_shows, scalar_tree, operand_tree, reduced_tree, numbered_tree, number_tree, shifted_tree, block_tree, placed_shows, placed_tree, shows_by, loads_by, element_by, found_shows, load_shows, Loads, no_loads, then_loads, one_load, index_loads, element_slot, step_gap, steps_tree, operation_tree, operation_shows, operation_loads, tree_of_expr, shows_of_expr, slots_of_expr, shows_of_test, slots_of_test}
 use Rattle.block_cache_gen.proofs.ArmInstructions.{IsSeen, Sets, loaded-bank, sets-li, sets-alu, sets-ldw, walked-ldb}
 use Rattle.block_cache_gen.proofs.SpreadArms.{read-leaves}
 use Rattle.block_cache_gen.proofs.ArmStates.{LeavesIn, LeavesTree, bound-of_bank, then_loads-held, one_load-held, serves-within, carries-same, carries-load, resident-read}
-use Rattle.held_registers.specs.Held.{public_zero}
+use Rattle.held_registers.specs.Prelude.{public_zero}
 use Rattle.held_registers.proofs.Found.{number-held}
 use Rattle.block_cache_gen.proofs.HeldLabels.{register-label, zero-label}
 use Rattle.block_cache_gen.proofs.HeldOperands.{IsOperandOf, operand-apart}

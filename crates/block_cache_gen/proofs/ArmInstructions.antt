@@ -6,17 +6,13 @@ use Rattle.gr_word.specs.declared.operations.Op.{Op}
 use Rattle.gr_word.specs.declared.operations.Op.TheVariants.{Remu}
 use Rattle.lt_isa.specs.declared.instructions.Instr.{Instr}
 use Rattle.lt_isa.specs.declared.instructions.Instr.TheVariants.{Li, Alu, Ldb, Stb, Ldw, Stw}
-use Rattle.lt_isa.specs.Object.{Parts, is_ram, is_eram, blocks_of}
-use Rattle.lt_isa.specs.Costs.{operation_cost}
-use Rattle.symbolic_values.specs.Trees.{Value, Const, Apply}
-use Rattle.trace_patterns.specs.Events.{RamRead, EncRead, EncWrite, Oram}
-use Rattle.stretches.specs.Shows.{Show, Gap, Seen, pattern_of_one}
-use Rattle.trace_patterns.specs.SymStates.{Loaded, SymSlot, AnySlot, RamSlot, EramSlot, OramSlot, SymState, tree_held, slot_held, hold_tree, hold_slot, slot_bank}
-use Rattle.trace_patterns.specs.Single.{Single, Goes, gap, event, applied_trees, at_tree, named_block, word_tree, word_held, if_bound, if_stored, stores, single}
+use Rattle.lt_isa.specs.Prelude.{Parts, is_ram, is_eram, blocks_of, operation_cost}
+use Rattle.symbolic_values.specs.Prelude.{Value, Const, Apply}
+use Rattle.trace_patterns.specs.Prelude.{RamRead, EncRead, EncWrite, Oram, Loaded, SymSlot, AnySlot, RamSlot, EramSlot, OramSlot, SymState, tree_held, slot_held, hold_tree, hold_slot, slot_bank, Single, Goes, gap, event, applied_trees, at_tree, named_block, word_tree, word_held, if_bound, if_stored, stores, single}
+use Rattle.stretches.specs.Prelude.{Show, Gap, Seen, pattern_of_one}
 use Rattle.lt_checker.proofs.Singles.{IsKnown, IsHidden}
 use Rattle.stretches.proofs.ArmCode.{Walked, walked-one}
-use Rattle.block_cache_gen.specs.Homes.{Setting, blocks_set}
-use Rattle.block_cache_gen.specs.PatternsOf.{operation_gap, word_gap, word_read, block_named_by, plain_loaded, encrypted_loaded, block_loaded, load_shows, store_shows}
+use Rattle.block_cache_gen.specs.Prelude.{Setting, blocks_set, operation_gap, word_gap, word_read, block_named_by, plain_loaded, encrypted_loaded, block_loaded, load_shows, store_shows}
 
 -- what is made of a load by its bank
 abbrev plain_load : Parts → SymState → ℕ → ℕ → Option Value → Single
@@ -101,15 +97,11 @@ module _ (o : Parts) (depth : ℕ) where
     word_held-read (RamSlot block origin) (Some t) =
         λ i. Some (word_tree origin block (Apply Remu t (Const (pos (2 ^ (profile i).block_log)))))
     word_held-read (RamSlot block origin) None = refl
-    word_held-read AnySlot t = refl
-    word_held-read (EramSlot block) t = refl
-    word_held-read (OramSlot bank) t = refl
+    word_held-read other t = refl
 
     bound-goes : (bound : SymSlot) (go : Single) → IsKnown bound → if_bound bound go ≡ go
     bound-goes AnySlot go h = absurd h
-    bound-goes (RamSlot block origin) go h = refl
-    bound-goes (EramSlot block) go h = refl
-    bound-goes (OramSlot bank) go h = refl
+    bound-goes other go h = refl
 
     -- a word of a slot's block is written to a register
     pub sets-ldw : (s : SymState) (r slot ro : ℕ) (bound : SymSlot) (place : Option Value)

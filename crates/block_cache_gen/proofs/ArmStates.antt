@@ -3,22 +3,20 @@ use Rattle.std.proofs.Common.{◌≡◌, ℕ, ◌<◌, ◌≤◌, Bool, true, fa
 use Rattle.std.specs.Prelude.{if◌then◌else◌}
 use Rattle.std.specs.Option.{option_or, unwrap_or}
 use Rattle.std.proofs.lemmas.Bool.{cases_eq, eq-eqb, ne_eqb}
-use Rattle.gr_base.specs.Lists.{Within}
+use Rattle.gr_base.specs.Prelude.{Within}
 use Rattle.gr_word.specs.declared.variables.Label.{Label}
 use Rattle.gr_word.specs.declared.variables.Label.TheVariants.{Public, Secret}
 use Rattle.gr_word.specs.declared.variables.Shape.{Shape}
 use Rattle.gr_word.specs.declared.variables.Shape.TheVariants.{Array}
 use Rattle.lt_isa.specs.declared.instructions.Instr.{Instr}
-use Rattle.lt_isa.specs.Object.{Parts, is_ram, block_words}
-use Rattle.symbolic_values.specs.Trees.{Value, SlotAt}
-use Rattle.src_tree.specs.Contexts.{context_of}
-use Rattle.stretches.specs.Shows.{Show}
-use Rattle.trace_patterns.specs.SymStates.{Entry, SymSlot, AnySlot, RamSlot, EramSlot, OramSlot, SymState, tree_held, slot_held, hold_slot, slot_bank}
+use Rattle.lt_isa.specs.Prelude.{Parts, is_ram, block_words}
+use Rattle.symbolic_values.specs.Prelude.{Value, SlotAt}
+use Rattle.src_tree.specs.Prelude.{context_of}
+use Rattle.stretches.specs.Prelude.{Show}
+use Rattle.trace_patterns.specs.Prelude.{Entry, SymSlot, AnySlot, RamSlot, EramSlot, OramSlot, SymState, tree_held, slot_held, hold_slot, slot_bank}
 use Rattle.stretches.proofs.ArmCode.{Walked}
-use Rattle.block_cache_gen.specs.Homes.{Home, Setting, held_label, home_of, pin_of, IsPin, IsResidentHome, Serves, PlainSlot, EncryptedSlot, ObliviousSlot, HasHomes}
-use Rattle.block_cache_gen.specs.Carries.{CarriesInArm, held_tree}
-use Rattle.block_cache_gen.specs.PatternsOf.{Loads, then_loads, one_load, word_read, pinned_slot}
-use Rattle.bank_alloc.specs.Apart.{scalar_bank}
+use Rattle.block_cache_gen.specs.Prelude.{Home, Setting, held_label, home_of, pin_of, IsPin, IsResidentHome, Serves, PlainSlot, EncryptedSlot, ObliviousSlot, HasHomes, CarriesInArm, held_tree, Loads, then_loads, one_load, word_read, pinned_slot}
+use Rattle.bank_alloc.specs.Prelude.{scalar_bank}
 use Rattle.block_cache_gen.proofs.HeldLabels.{label-high, one-label}
 use Rattle.block_cache_gen.proofs.HomeFacts.{pinned-apart}
 use Rattle.block_cache_gen.proofs.PublicTrees.{pinned-ram}
@@ -42,9 +40,7 @@ LeavesTree o f depth s code shows to tree loads = LeavesIn o f depth s code show
 -- a slot of a bank is bound
 pub bound-of_bank : (bound : SymSlot) (bank : ℕ) → slot_bank bound ≡ Some bank → IsKnown bound
 bound-of_bank AnySlot bank e = absurd (let f : ◌≡◌ {A = Option ℕ} None (Some bank) = e in cc)
-bound-of_bank (RamSlot block origin) bank e = tt
-bound-of_bank (EramSlot block) bank e = tt
-bound-of_bank (OramSlot other) bank e = tt
+bound-of_bank other bank e = tt
 
 -- loads in sequence, and one load
 pub then_loads-held : (first rest : Loads) (k : ℕ) (bound : SymSlot)
@@ -174,9 +170,7 @@ module _ (o : Parts) (f : Setting) (homes : HasHomes o f) where
   pub encrypted_read : (bound : SymSlot) (place : Option Value) → slot_bank bound ≡ Some 1 → word_read f bound place ≡ None
   encrypted_read (RamSlot block origin) place e =
       absurd (let g : ◌≡◌ {A = Option ℕ} (Some 0) (Some 1) = e in grind arith)
-  encrypted_read AnySlot place e = refl
-  encrypted_read (EramSlot block) place e = refl
-  encrypted_read (OramSlot bank) place e = refl
+  encrypted_read other place e = refl
 
   pub hidden_read : (h : Home) (place : Option Value) → h.bank ≡ 1 → word_read f (pinned_slot h) place ≡ None
   hidden_read h place is =

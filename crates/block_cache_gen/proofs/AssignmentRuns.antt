@@ -1,38 +1,24 @@
 -- The code of an assignment, run, leaves the store that it means, or the same store in a mirrored arm.
 use Rattle.std.proofs.Common.{◌≡◌, ◌≢◌, ℕ, ◌+◌, ◌/◌, ◌%◌, ◌<◌, ◌≤◌, Bool, true, false, ℤ, pos, List, [], ◌∷◌, ◌++◌, get_or, set, append_assoc, append-nil, Option, Some, None, refl, sym, ap, ◌∙◌, subst, arith}
 use Rattle.std.proofs.lemmas.List.{get_or-set_same}
-use Rattle.gr_word.specs.Words.{applied, IsWord}
+use Rattle.gr_word.specs.Prelude.{applied, IsWord}
 use Rattle.gr_word.specs.declared.operations.Op.{Op}
 use Rattle.gr_word.specs.declared.variables.Label.{Label}
 use Rattle.gr_word.specs.declared.variables.Shape.TheVariants.{Scalar, Array}
 use Rattle.lt_isa.specs.declared.instructions.Instr.{Instr}
 use Rattle.lt_isa.specs.declared.instructions.Instr.TheVariants.{Li, Alu, Stb}
-use Rattle.lt_isa.specs.Object.{Parts, block_words}
-use Rattle.lt_isa.specs.Ranges.{IsInRange}
-use Rattle.lt_isa.specs.Machine.{State, Unbound, Bound, register, slot, bank_blocks, word_in, write_event}
-use Rattle.lt_isa.specs.Shape.{IsShaped}
-use Rattle.stretches.specs.Standing.{StandsAt}
-use Rattle.stretches.specs.Coming.{RunsThrough, Sets}
+use Rattle.lt_isa.specs.Prelude.{Parts, block_words, IsInRange, State, Unbound, Bound, register, slot, bank_blocks, word_in, write_event, IsShaped}
+use Rattle.stretches.specs.Prelude.{StandsAt, RunsThrough, Sets}
 use Rattle.lt_isa.proofs.Shapes.{IsWord-register}
 use Rattle.stretches.proofs.Coming.{comes-stb}
 use Rattle.stretches.proofs.RunningThrough.{runs-cons, runs-one, runs-append, runs-weaker, sets-li, sets-alu}
-use Rattle.src_tree.specs.Contexts.{context_of}
-use Rattle.src_tree.specs.Heights.{height_of}
-use Rattle.src_tree.specs.Labels.{label_of}
-use Rattle.src_tree.specs.Meaning.{Store, variable_number, words_of_number, evaluated, with_word}
-use Rattle.src_tree.specs.Trees.{Tree, Variable, Operation, SetVariable, SetElement}
-use Rattle.src_tree.specs.Typing.{TypedTree}
+use Rattle.src_tree.specs.Prelude.{context_of, height_of, label_of, Store, variable_number, words_of_number, evaluated, with_word, Tree, Variable, Operation, SetVariable, SetElement, TypedTree}
 use Rattle.scratch_alloc.proofs.Serving.{serves-within}
-use Rattle.scalar_ranges.specs.Ranges.{AreWithin}
+use Rattle.scalar_ranges.specs.Prelude.{AreWithin}
 use Rattle.block_cache_gen.specs.declared.frames.Mode.{Mode}
 use Rattle.block_cache_gen.specs.declared.indexes.Numbering.{Numbering}
 use Rattle.block_cache_gen.specs.declared.frames.Mode.TheVariants.{Public, Real, Mirrored}
-use Rattle.block_cache_gen.specs.Homes.{Setting, HasHomes, home_of, words_a_block, register_for, further_slots}
-use Rattle.block_cache_gen.specs.Codes.{fixed_index, access_by, placed_code, index_operand, operand, operand_part, operand_register, expr_code, store_code, stored_by, set_code, is_in_place, numbering, zero_of, copy_code, target, write_code, scalar_set, straight, straight_code}
-use Rattle.block_cache_gen.specs.StandsFor.{StandsFor, FitsHomes}
-use Rattle.block_cache_gen.specs.Accesses.{access_of, accessed_by, accesses, word_number, block_in, slots_after, seen_of_all}
-use Rattle.block_cache_gen.specs.Assignments.{Assigns, assigned, by_mode, words_written, write_by, seen_of_set}
-use Rattle.block_cache_gen.specs.LeavesWord.{LeavesWord}
+use Rattle.block_cache_gen.specs.Prelude.{Setting, HasHomes, home_of, words_a_block, register_for, further_slots, fixed_index, access_by, placed_code, index_operand, operand, operand_part, operand_register, expr_code, store_code, stored_by, set_code, is_in_place, numbering, zero_of, copy_code, target, write_code, scalar_set, straight, straight_code, StandsFor, FitsHomes, access_of, accessed_by, accesses, word_number, block_in, slots_after, seen_of_all, Assigns, assigned, by_mode, words_written, write_by, seen_of_set, LeavesWord}
 use Rattle.block_cache_gen.proofs.AccessLaws.{seen_of_all-append}
 use Rattle.block_cache_gen.proofs.HomeFacts.{block_words-is}
 use Rattle.held_registers.proofs.Copies.{runs-copy}

@@ -1,8 +1,8 @@
 -- The store that an assignment leaves is what it means, and it uses no turns.
 use Rattle.std.proofs.Common.{List, refl}
 use Rattle.src_tree.specs.declared.trees.Decl.{Decl}
-use Rattle.src_tree.specs.Trees.{Statement, SetVariable, SetElement, Choice, Loop}
-use Rattle.block_cache_gen.specs.Assignments.{IsAssignment, IsEffect, assigned}
+use Rattle.src_tree.specs.Prelude.{Statement, SetVariable, SetElement, Choice, Loop}
+use Rattle.block_cache_gen.specs.Prelude.{IsAssignment, IsEffect, assigned}
 
 pub assignment_means : (decls : List Decl) (s : Statement) → IsAssignment s → IsEffect decls s (assigned decls s)
 assignment_means decls (SetVariable x e) is = λ store turns. refl

@@ -8,11 +8,10 @@ use Rattle.std.proofs.lemmas.Nat.Bits.{bit_at_not, bit_at-zero, bit_at_clear_sam
 use Rattle.gr_word.specs.declared.variables.Label.{Label}
 use Rattle.gr_word.specs.declared.variables.Label.TheVariants.{Public, Secret}
 use Rattle.src_tree.specs.declared.trees.Decl.{Decl}
-use Rattle.src_tree.specs.Labels.{secret_label}
-use Rattle.trace_patterns.specs.Known.{is_marked}
-use Rattle.held_registers.specs.Held.{held_at}
-use Rattle.block_cache_gen.specs.Homes.{Held, Setting, held_label, label_by}
-use Rattle.block_cache_gen.specs.Notes.{all_marked, base_mask, is_public, mask_to, unmarked}
+use Rattle.src_tree.specs.Prelude.{secret_label}
+use Rattle.trace_patterns.specs.Prelude.{is_marked}
+use Rattle.held_registers.specs.Prelude.{held_at}
+use Rattle.block_cache_gen.specs.Prelude.{Held, Setting, held_label, label_by, all_marked, base_mask, is_public, mask_to, unmarked}
 
 -- a mask without a register marks all others that it did
 pub unmarked-same : (mask r : ℕ) → r < 32 → is_marked (unmarked mask r) r ≡ false

@@ -2,9 +2,8 @@
 use Rattle.std.proofs.Common.{◌≡◌, ℕ, ◌+◌, suc, Bool, List, refl, ap, ◌∙◌, arith}
 use Rattle.std.specs.Prelude.{if◌then◌else◌}
 use Rattle.src_tree.specs.declared.trees.Decl.{Decl}
-use Rattle.held_registers.specs.Held.{held_at}
-use Rattle.block_cache_gen.specs.Homes.{Held, label_by}
-use Rattle.block_cache_gen.specs.Notes.{is_public, mask_to, unmarked, all_marked}
+use Rattle.held_registers.specs.Prelude.{held_at}
+use Rattle.block_cache_gen.specs.Prelude.{Held, label_by, is_public, mask_to, unmarked, all_marked}
 
 -- before the first register
 pub mask-begins : (decls : List Decl) (held : List Held) → all_marked ≡ mask_to decls held 0

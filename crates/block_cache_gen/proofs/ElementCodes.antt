@@ -5,12 +5,10 @@ use Rattle.std.specs.Prelude.{not}
 use Rattle.std.proofs.lemmas.List.{length-map}
 use Rattle.lt_isa.specs.declared.instructions.Instr.TheVariants.{Stb}
 use Rattle.word_selection.specs.declared.effects.Effect.{Effect}
-use Rattle.word_selection.specs.SlotSteps.{instruction_of}
-use Rattle.word_selection.specs.Selection.{left_register, choice_steps, choices_steps, read_steps, selected_read, mask_register, first_steps, next_mask_steps, exchange_steps, exchanges_steps, write_steps, selected_write}
+use Rattle.word_selection.specs.Prelude.{instruction_of, left_register, choice_steps, choices_steps, read_steps, selected_read, mask_register, first_steps, next_mask_steps, exchange_steps, exchanges_steps, write_steps, selected_write}
 use Rattle.block_cache_gen.specs.declared.frames.Mode.{Mode}
 use Rattle.block_cache_gen.specs.declared.frames.Mode.TheVariants.{Public, Real, Mirrored}
-use Rattle.block_cache_gen.specs.Homes.{Home, Setting, further_slots, slot_of_word, words_a_block}
-use Rattle.block_cache_gen.specs.Codes.{effect_of, fixed_word, read_by, read_code, store_code, stored_among, stored_by, stored_code}
+use Rattle.block_cache_gen.specs.Prelude.{Home, Setting, further_slots, slot_of_word, words_a_block, effect_of, fixed_word, read_by, read_code, store_code, stored_among, stored_by, stored_code}
 use Rattle.block_cache_gen.proofs.WordSlots.{few-further}
 
 choices-length : (size i : ℕ) (slots : List ℕ) → length (choices_steps size i slots) ≡ 7 * length slots

@@ -2,12 +2,10 @@
 use Rattle.std.proofs.Common.{◌≡◌, ℕ, ◌+◌, ◌≤◌, List, [], ◌∷◌, length, take, refl, sym, ap, ◌∙◌, add-one, arith}
 use Rattle.std.proofs.lemmas.List.{length-take, take_all}
 use Rattle.word_selection.specs.declared.effects.Effect.{Effect}
-use Rattle.word_selection.specs.Selection.{selected_read, selected_write}
+use Rattle.word_selection.specs.Prelude.{selected_read, selected_write}
 use Rattle.block_cache_gen.specs.declared.frames.Mode.{Mode}
 use Rattle.block_cache_gen.specs.declared.variables.Variable.{Variable}
-use Rattle.block_cache_gen.specs.Codes.{effect_of, stored_among}
-use Rattle.block_cache_gen.specs.Homes.{Setting, further_slots, slots_of_home, words_a_block}
-use Rattle.block_cache_gen.specs.Variables.{home_in}
+use Rattle.block_cache_gen.specs.Prelude.{effect_of, stored_among, Setting, further_slots, slots_of_home, words_a_block, home_in}
 
 -- the slots that count
 further-are : (v : Variable) → v.further ≤ 4 → further_slots (home_in v) ≡ take v.further v.more

@@ -4,17 +4,11 @@ use Rattle.std.proofs.lemmas.Bool.{cases_eq, true≢false}
 use Rattle.std.proofs.lemmas.List.{get_or-set_same, get_or-set_other}
 use Rattle.gr_word.specs.declared.variables.Label.{Label}
 use Rattle.gr_word.specs.declared.variables.Shape.TheVariants.{Array}
-use Rattle.lt_isa.specs.Object.{Parts}
-use Rattle.lt_isa.specs.Ranges.{IsInRange}
-use Rattle.lt_isa.specs.Machine.{Unbound, Bound, State, register, bank_blocks, block_at, word_in, set_slot, set_block}
-use Rattle.lt_isa.specs.Outputs.{bank_word_numbered}
-use Rattle.lt_isa.specs.Shape.{IsShaped}
-use Rattle.src_tree.specs.Contexts.{context_of}
-use Rattle.src_tree.specs.Meaning.{Store, variable_number, words_of_number, with_word}
+use Rattle.lt_isa.specs.Prelude.{Parts, IsInRange, Unbound, Bound, State, register, bank_blocks, block_at, word_in, set_slot, set_block, bank_word_numbered, IsShaped}
+use Rattle.src_tree.specs.Prelude.{context_of, Store, variable_number, words_of_number, with_word}
 use Rattle.src_tree.proofs.VariableNumbers.{number-below}
 use Rattle.scratch_alloc.proofs.Serving.{serves-within}
-use Rattle.block_cache_gen.specs.Homes.{Home, Setting, HasHomes, HomesApart, no_home, home_of, words_a_block, start_of_home}
-use Rattle.block_cache_gen.specs.StandsFor.{StandsFor, FitsHomes, IsBlockOf}
+use Rattle.block_cache_gen.specs.Prelude.{Home, Setting, HasHomes, HomesApart, no_home, home_of, words_a_block, start_of_home, StandsFor, FitsHomes, IsBlockOf}
 use Rattle.block_cache_gen.proofs.HomeFacts.{block_words-is, block_words-least, block-exists, word-split, word-block, word-place}
 use Rattle.block_cache_gen.proofs.HeldScalars.{array-free, held-words}
 use Rattle.block_cache_gen.proofs.Stands.{stands-like, stands-bound}

@@ -1,18 +1,12 @@
 -- What is appended for guards and assignments, by their parts.
 use Rattle.std.proofs.Common.{Option, ◌≡◌, ℕ, ◌+◌, ◌*◌, ◌≤◌, List, ◌++◌, length, ap, ◌∙◌, subst, arith, [], ◌∷◌}
 use Rattle.gr_word.specs.declared.variables.Label.{Label}
-use Rattle.lt_isa.specs.Limits.{most_instructions}
-use Rattle.src_tree.specs.Contexts.{context_of}
-use Rattle.src_tree.specs.Labels.{label_of}
-use Rattle.src_tree.specs.Limits.{tree_weight}
-use Rattle.src_tree.specs.Trees.{Tree, SetElement, Operation}
+use Rattle.lt_isa.specs.Prelude.{most_instructions}
+use Rattle.src_tree.specs.Prelude.{context_of, label_of, tree_weight, Tree, SetElement, Operation}
 use Rattle.block_cache_gen.specs.declared.frames.CodeBuf.{CodeBuf}
 use Rattle.block_cache_gen.specs.declared.frames.Mode.{Mode}
 use Rattle.block_cache_gen.specs.declared.frames.Mode.TheVariants.{Public}
-use Rattle.block_cache_gen.specs.Homes.{Home, Setting, home_of}
-use Rattle.block_cache_gen.specs.Codes.{indexed_code, numbering, operand, operand_part, operand_register, expr_code, fixed_index, stored_code}
-use Rattle.block_cache_gen.specs.Notes.{expr_notes, operand_mask, base_mask}
-use Rattle.block_cache_gen.specs.Emitted.{Appended, no_notes, notes_in, access_notes, EmitsOperand, EmitsAccess, EmitsSet, EmitsStraight}
+use Rattle.block_cache_gen.specs.Prelude.{Home, Setting, home_of, indexed_code, numbering, operand, operand_part, operand_register, expr_code, fixed_index, stored_code, expr_notes, operand_mask, base_mask, Appended, no_notes, notes_in, access_notes, EmitsOperand, EmitsAccess, EmitsSet, EmitsStraight}
 use Rattle.block_cache_gen.proofs.Emitting.{silent_behind}
 use Rattle.block_cache_gen.proofs.EmittedTrees.{operand_then, room_for_right}
 use Rattle.gr_word.specs.declared.operations.Op.{Op}

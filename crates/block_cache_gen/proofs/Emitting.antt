@@ -6,7 +6,7 @@ use Rattle.lt_isa.specs.declared.symbols.Note.{Note}
 use Rattle.block_cache_gen.specs.declared.frames.CodeBuf.{CodeBuf}
 use Rattle.block_cache_gen.specs.declared.frames.Mode.{Mode}
 use Rattle.block_cache_gen.specs.declared.frames.Mode.TheVariants.{Public, Real, Mirrored}
-use Rattle.block_cache_gen.specs.Emitted.{Appended, CodeGrows, no_notes, notes_in}
+use Rattle.block_cache_gen.specs.Prelude.{Appended, CodeGrows, no_notes, notes_in}
 
 longer : {X : Type 0} (a b c : List X) (m : (more : List X) × (b ≡ a ++ more)) (n : (more : List X) × (c ≡ b ++ more))
     → (more : List X) × (c ≡ a ++ more)

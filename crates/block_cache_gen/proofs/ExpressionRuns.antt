@@ -1,41 +1,28 @@
 -- The code of an expression, run, leaves its value, and is seen to make its accesses.
 use Rattle.std.proofs.Common.{◌≡◌, ◌≢◌, ℕ, ◌+◌, ◌/◌, ◌%◌, ◌<◌, ◌≤◌, Bool, true, false, ℤ, pos, List, [], ◌∷◌, ◌++◌, append-nil, Option, Some, None, refl, sym, ap, ◌∙◌, subst, arith}
 use Rattle.std.specs.Prelude.{is_some}
-use Rattle.gr_word.specs.Words.{applied, IsWord}
+use Rattle.gr_word.specs.Prelude.{applied, IsWord}
 use Rattle.gr_word.specs.declared.variables.Label.{Label}
 use Rattle.gr_word.specs.declared.variables.Label.TheVariants.{Public}
 use Rattle.gr_word.specs.declared.variables.Shape.TheVariants.{Scalar, Array}
 use Rattle.lt_isa.specs.declared.instructions.Instr.{Instr}
 use Rattle.lt_isa.specs.declared.instructions.Instr.TheVariants.{Li, Alu, Ldw}
-use Rattle.lt_isa.specs.Object.{Parts}
-use Rattle.lt_isa.specs.Ranges.{IsInRange}
-use Rattle.lt_isa.specs.Machine.{State, register, block_at, word_in}
-use Rattle.lt_isa.specs.Shape.{IsShaped}
-use Rattle.lt_isa.specs.Step.{word_named}
+use Rattle.lt_isa.specs.Prelude.{Parts, IsInRange, State, register, block_at, word_in, IsShaped, word_named}
 use Rattle.lt_isa.proofs.Shapes.{IsWord-register}
-use Rattle.stretches.specs.Standing.{StandsAt}
-use Rattle.stretches.specs.Coming.{RunsThrough, Sets}
+use Rattle.stretches.specs.Prelude.{StandsAt, RunsThrough, Sets}
 use Rattle.stretches.proofs.RunningThrough.{runs-cons, runs-one, runs-append, runs-weaker, sets-li, sets-alu, sets-ldw}
-use Rattle.src_tree.specs.Contexts.{context_of}
-use Rattle.src_tree.specs.Heights.{height_of}
-use Rattle.src_tree.specs.Meaning.{Store, variable_number, scalar, element, evaluated}
-use Rattle.src_tree.specs.Trees.{Tree, Number, Variable, Element, Operation}
-use Rattle.src_tree.specs.Typing.{TypedTree}
+use Rattle.src_tree.specs.Prelude.{context_of, height_of, Store, variable_number, scalar, element, evaluated, Tree, Number, Variable, Element, Operation, TypedTree}
 use Rattle.src_tree.proofs.TreeHeights.{height-some}
-use Rattle.scalar_ranges.specs.Ranges.{AreWithin}
+use Rattle.scalar_ranges.specs.Prelude.{AreWithin}
 use Rattle.block_cache_gen.specs.declared.frames.Mode.{Mode}
 use Rattle.block_cache_gen.specs.declared.indexes.Numbering.{Numbering}
-use Rattle.block_cache_gen.specs.Homes.{Setting, HasHomes, home_of, words_a_block, start_of_home, register_for, further_slots}
-use Rattle.block_cache_gen.specs.Codes.{fixed_index, scalar_code, access_by, placed_code, read_by, index_operand, operand, operand_part, operand_register, operand_unless, left_operand, operation_code, steps_at, expr_code, is_in_place, numbering, copy_code}
+use Rattle.block_cache_gen.specs.Prelude.{Setting, HasHomes, home_of, words_a_block, start_of_home, register_for, further_slots, fixed_index, scalar_code, access_by, placed_code, read_by, index_operand, operand, operand_part, operand_register, operand_unless, left_operand, operation_code, steps_at, expr_code, is_in_place, numbering, copy_code, StandsFor, FitsHomes, access_of, accessed_by, accesses, word_number, block_in, slots_after, seen_of_all, LeavesWord}
 use Rattle.gr_word.specs.declared.operations.Op.{Op}
-use Rattle.strength_reduction.specs.Steps.{Step, numbered, words_after, code_of}
+use Rattle.strength_reduction.specs.Prelude.{Step, numbered, words_after, code_of}
 use Rattle.step_code.proofs.StepRuns.{Leaves, runs-steps}
-use Rattle.held_registers.specs.Held.{public_zero}
+use Rattle.held_registers.specs.Prelude.{public_zero}
 use Rattle.held_registers.proofs.Copies.{runs-copy}
 use Rattle.block_cache_gen.proofs.StepsAt.{StepsOf, steps-of}
-use Rattle.block_cache_gen.specs.StandsFor.{StandsFor, FitsHomes}
-use Rattle.block_cache_gen.specs.Accesses.{access_of, accessed_by, accesses, word_number, block_in, slots_after, seen_of_all}
-use Rattle.block_cache_gen.specs.LeavesWord.{LeavesWord}
 use Rattle.block_cache_gen.proofs.AccessLaws.{slots_after-append, seen_of_all-append}
 use Rattle.block_cache_gen.proofs.HomeFacts.{block_words-is, word-block, word-place}
 use Rattle.block_cache_gen.proofs.HeldScalars.{array-free}

@@ -3,24 +3,14 @@ use Rattle.std.proofs.Common.{◌≡◌, ℕ, ◌+◌, ◌*◌, ◌<◌, ◌≤�
 use Rattle.std.specs.Prelude.{All}
 use Rattle.std.proofs.lemmas.List.Elements.{All-cons, All-nil}
 use Rattle.gr_word.specs.declared.variables.Label.{Label}
-use Rattle.lt_isa.specs.Limits.{most_instructions}
+use Rattle.lt_isa.specs.Prelude.{most_instructions}
 use Rattle.lt_isa.specs.declared.instructions.Instr.{Instr}
 use Rattle.lt_isa.specs.declared.symbols.Note.{Note}
-use Rattle.src_tree.specs.Contexts.{Context, context_of}
-use Rattle.src_tree.specs.Heights.{height_of}
-use Rattle.src_tree.specs.Limits.{LowStatement, tree_weight, test_weight, statement_weight}
-use Rattle.src_tree.specs.Trees.{Tree, Test, Statement, SetVariable, SetElement, Choice, Loop}
-use Rattle.src_tree.specs.Typing.{TypedTree, TypedTest, TypedStatement}
+use Rattle.src_tree.specs.Prelude.{Context, context_of, height_of, LowStatement, tree_weight, test_weight, statement_weight, Tree, Test, Statement, SetVariable, SetElement, Choice, Loop, TypedTree, TypedTest, TypedStatement}
 use Rattle.block_cache_gen.specs.declared.frames.CodeBuf.{CodeBuf}
 use Rattle.block_cache_gen.specs.declared.frames.Mode.{Mode}
 use Rattle.block_cache_gen.specs.declared.frames.Mode.TheVariants.{Public, Real, Mirrored}
-use Rattle.block_cache_gen.specs.Assignments.{IsAssignment}
-use Rattle.block_cache_gen.specs.Homes.{Setting}
-use Rattle.block_cache_gen.specs.Codes.{expr_code, guard_code, set_code}
-use Rattle.block_cache_gen.specs.Emitted.{Appended, notes_in, EmitsExpr, EmitsGuard, EmitsSet}
-use Rattle.block_cache_gen.specs.Extends.{Extends}
-use Rattle.block_cache_gen.specs.Notes.{base_mask, expr_notes, guard_notes, set_notes}
-use Rattle.block_cache_gen.specs.TreeWords.{HasWords, TestHasWords, SetHasWords}
+use Rattle.block_cache_gen.specs.Prelude.{IsAssignment, Setting, expr_code, guard_code, set_code, Appended, notes_in, EmitsExpr, EmitsGuard, EmitsSet, Extends, base_mask, expr_notes, guard_notes, set_notes, HasWords, TestHasWords, SetHasWords}
 use Rattle.block_cache_gen.proofs.Emitting.{appended_length}
 use Rattle.block_cache_gen.proofs.RangesOfCode.{CodeFits, HomesFit, code-all, expression-fits, guard-fits, set_variable-fits, set_element-fits}
 use Rattle.block_cache_gen.proofs.RangesOfNotes.{PinsLow, NotesRise, base_mask-below, rise-fits, expression-rises, guard-rises, set-rises, expression-count, guard-count, set_variable-count, set_element-count}

@@ -2,23 +2,12 @@
 use Rattle.std.proofs.Common.{◌≡◌, ℕ, ◌+◌, ◌*◌, ◌≤◌, length, Result, Ok, Err, subst}
 use Rattle.std.specs.Prelude.{OnOk}
 use Rattle.gr_word.specs.declared.variables.Label.{Label}
-use Rattle.lt_isa.specs.Limits.{most_instructions}
-use Rattle.src_tree.specs.Contexts.{context_of}
-use Rattle.src_tree.specs.Heights.{height_of}
-use Rattle.src_tree.specs.Limits.{tree_weight, test_weight, statement_weight}
-use Rattle.src_tree.specs.Trees.{Tree, Test, Statement, source_of}
-use Rattle.src_tree.specs.Typing.{TypedTree, TypedTest}
+use Rattle.lt_isa.specs.Prelude.{most_instructions}
+use Rattle.src_tree.specs.Prelude.{context_of, height_of, tree_weight, test_weight, statement_weight, Tree, Test, Statement, source_of, TypedTree, TypedTest}
 use Rattle.block_cache_gen.specs.declared.frames.CodeBuf.{CodeBuf}
 use Rattle.block_cache_gen.specs.declared.frames.Frame.{Frame}
 use Rattle.block_cache_gen.specs.declared.frames.Mode.{Mode}
-use Rattle.block_cache_gen.specs.Assignments.{IsAssignment}
-use Rattle.block_cache_gen.specs.Conditions.{IsStatementFor}
-use Rattle.block_cache_gen.specs.Emitted.{EmitsExpr, EmitsGuard, EmitsSet}
-use Rattle.block_cache_gen.specs.Extends.{Extends}
-use Rattle.block_cache_gen.specs.Homes.{Setting}
-use Rattle.block_cache_gen.specs.Notes.{base_mask}
-use Rattle.block_cache_gen.specs.Settings.{IsFrame, setting_of}
-use Rattle.block_cache_gen.specs.TreeWords.{HasWords, TestHasWords, SetHasWords}
+use Rattle.block_cache_gen.specs.Prelude.{IsAssignment, IsStatementFor, EmitsExpr, EmitsGuard, EmitsSet, Extends, Setting, base_mask, IsFrame, setting_of, HasWords, TestHasWords, SetHasWords}
 use Rattle.block_cache_gen.proofs.Extending.{expr_extends, guard_extends, set_extends}
 use Rattle.block_cache_gen.proofs.HomesOfFrames.{homes_fit, frame_banks}
 use Rattle.src_tree.proofs.ProgramStatements.{statement_typed, statement_low}

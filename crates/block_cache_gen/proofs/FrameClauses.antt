@@ -2,34 +2,15 @@
 use Rattle.std.proofs.Common.{◌≡◌, ℕ, ◌+◌, ◌≤◌, false, List, drop, length, refl, sym, ap, ◌∙◌, subst, arith}
 use Rattle.std.proofs.Math.Seq.{drop-append_seam}
 use Rattle.gr_word.specs.declared.variables.Label.{Label}
-use Rattle.gr_word.specs.declared.variables.Label.TheVariants as label
 use Rattle.lt_isa.specs.declared.instructions.Instr.{Instr}
 use Rattle.lt_isa.specs.declared.symbols.Note.{Note}
-use Rattle.src_tree.specs.Contexts.{context_of}
-use Rattle.src_tree.specs.Heights.{height_of}
-use Rattle.src_tree.specs.Limits.{LowStatement}
-use Rattle.src_tree.specs.Trees.{Tree, Test, Statement, SetVariable, SetElement, Choice, Loop, Source, source_of}
-use Rattle.src_tree.specs.Typing.{TypedTree, TypedTest, TypedStatement, DeclaredOnce}
-use Rattle.held_registers.specs.Held.{IsSoundHeld}
+use Rattle.src_tree.specs.Prelude.{context_of, height_of, LowStatement, Tree, Test, Statement, SetVariable, SetElement, Choice, Loop, Source, source_of, TypedTree, TypedTest, TypedStatement, DeclaredOnce}
+use Rattle.held_registers.specs.Prelude.{IsSoundHeld}
 use Rattle.block_cache_gen.specs.declared.frames.CodeBuf.{CodeBuf}
 use Rattle.block_cache_gen.specs.declared.frames.Frame.{Frame}
 use Rattle.block_cache_gen.specs.declared.frames.Mode.{Mode}
 use Rattle.block_cache_gen.specs.declared.frames.Mode.TheVariants.{Public, Real, Mirrored}
-use Rattle.block_cache_gen.specs.Assignments.{IsAssignment}
-use Rattle.block_cache_gen.specs.Behind.{code_behind, notes_behind}
-use Rattle.block_cache_gen.specs.Codes.{may_skip_loads, expr_code, guard_code, set_code}
-use Rattle.block_cache_gen.specs.Conditions.{IsStatementFor}
-use Rattle.block_cache_gen.specs.Emitted.{Appended, notes_in, EmitsExpr, EmitsGuard, EmitsSet}
-use Rattle.block_cache_gen.specs.Homes.{Setting}
-use Rattle.block_cache_gen.specs.InstructionsOf.{IsCodeOfSet}
-use Rattle.block_cache_gen.specs.Notes.{base_mask, expr_notes, guard_notes, set_notes}
-use Rattle.block_cache_gen.specs.PublicCode.{IsPassedAsExpr, IsPassedAsTest, IsPassedAsSet}
-use Rattle.block_cache_gen.specs.PublicIndexes.{HasPublicIndexes, TestHasPublicIndexes, SetHasPublicIndexes}
-use Rattle.block_cache_gen.specs.RunsOf.{Evaluates, EvaluatesTest, Performs}
-use Rattle.block_cache_gen.specs.SecretCode.{IsWalkedAsExpr, IsWalkedAsTest, IsWalkedAsSet}
-use Rattle.block_cache_gen.specs.Settings.{IsFrame, setting_of}
-use Rattle.block_cache_gen.specs.StoredWords.{stored_words, written_words, set_stores, mode_writes}
-use Rattle.block_cache_gen.specs.Twins.{AreTwins, HasTwin, other_mode}
+use Rattle.block_cache_gen.specs.Prelude.{IsAssignment, code_behind, notes_behind, may_skip_loads, expr_code, guard_code, set_code, IsStatementFor, Appended, notes_in, EmitsExpr, EmitsGuard, EmitsSet, Setting, IsCodeOfSet, base_mask, expr_notes, guard_notes, set_notes, IsPassedAsExpr, IsPassedAsTest, IsPassedAsSet, HasPublicIndexes, TestHasPublicIndexes, SetHasPublicIndexes, Evaluates, EvaluatesTest, Performs, IsWalkedAsExpr, IsWalkedAsTest, IsWalkedAsSet, IsFrame, setting_of, stored_words, written_words, set_stores, mode_writes, AreTwins, HasTwin, other_mode}
 use Rattle.block_cache_gen.proofs.WrittenWords.{set-writes}
 use Rattle.block_cache_gen.proofs.FrameIndexes.{frame_public, set_of_statement}
 use Rattle.src_tree.proofs.ProgramStatements.{statement_typed, statement_low}
@@ -40,6 +21,7 @@ use Rattle.block_cache_gen.proofs.PublicGuards.{guard-passes}
 use Rattle.block_cache_gen.proofs.RunsOf.{expression-evaluates, guard-evaluates, assignment-performs}
 use Rattle.block_cache_gen.proofs.SecretCodes.{expr-stores, guard-stores, variable-stores, element-stores, set_code-mirrors}
 use Rattle.block_cache_gen.proofs.SecretWalks.{expr-walked, guard-walked, set-walked}
+use Rattle.gr_word.specs.declared.variables.Label.TheVariants as label
 
 -- the rest is what was appended
 pub behind-holds : (a b : CodeBuf) (more : List Instr) (noted : ℕ → List Note) → Appended a b more noted

@@ -4,15 +4,9 @@ use Rattle.std.specs.List.{All}
 use Rattle.std.proofs.lemmas.List.Elements.{All-append, All-cons, All-contains, All-nil}
 use Rattle.gr_word.specs.declared.variables.Label.{Label}
 use Rattle.gr_word.specs.declared.variables.Label.TheVariants.{Public}
-use Rattle.src_tree.specs.Contexts.{Context, context_of}
-use Rattle.src_tree.specs.Labels.{inside}
-use Rattle.src_tree.specs.Statements.{with_parts, in_order}
-use Rattle.src_tree.specs.Trees.{Statement, SetVariable, SetElement, Choice, Loop, Block, Nothing, Then, source_of}
+use Rattle.src_tree.specs.Prelude.{Context, context_of, inside, with_parts, in_order, Statement, SetVariable, SetElement, Choice, Loop, Block, Nothing, Then, source_of, StandsIn}
 use Rattle.block_cache_gen.specs.declared.frames.Frame.{Frame}
-use Rattle.block_cache_gen.specs.Homes.{Setting}
-use Rattle.block_cache_gen.specs.Settings.{IsFrame, plan_of, setting_of}
-use Rattle.src_tree.specs.Statements.{StandsIn}
-use Rattle.block_cache_gen.specs.PublicIndexes.{SetHasPublicIndexes, StatementHasPublicIndexes, BlockHasPublicIndexes}
+use Rattle.block_cache_gen.specs.Prelude.{Setting, IsFrame, plan_of, setting_of, SetHasPublicIndexes, StatementHasPublicIndexes, BlockHasPublicIndexes}
 use Rattle.block_cache_gen.proofs.IndexesOfPrograms.{body-public}
 
 abbrev pub PublicIn : Setting → Label × Statement → Type 0

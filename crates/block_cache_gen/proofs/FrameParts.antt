@@ -3,23 +3,16 @@ use Rattle.std.proofs.Common.{◌+◌, ◌≡◌, ℕ, suc, ◌<◌, ◌≤◌, 
 use Rattle.std.specs.Prelude.{if◌then◌else◌, is_some, true}
 use Rattle.std.specs.List.{AllByRecursion}
 use Rattle.gr_word.specs.declared.variables.Label.TheVariants.{Public}
-use Rattle.lt_isa.specs.Ranges.{any_bank}
+use Rattle.lt_isa.specs.Prelude.{any_bank}
 use Rattle.src_tree.specs.declared.trees.Decl.{Decl}
-use Rattle.src_tree.specs.Trees.{source_of}
-use Rattle.src_tree.specs.Limits.{LengthFits, words_of_length}
+use Rattle.src_tree.specs.Prelude.{source_of, LengthFits, words_of_length, context_of, label_at, variable_number}
 use Rattle.bank_alloc.specs.declared.places.Place.{Place}
 use Rattle.bank_alloc.proofs.Apart.{length_at}
-use Rattle.scratch_alloc.specs.Plans.{no_decl, no_place}
-use Rattle.src_tree.specs.Contexts.{context_of}
-use Rattle.src_tree.specs.Labels.{label_at}
+use Rattle.scratch_alloc.specs.Prelude.{no_decl, no_place}
 use Rattle.block_cache_gen.specs.declared.frames.Frame.{Frame}
 use Rattle.block_cache_gen.specs.declared.variables.Variable.{Variable}
-use Rattle.held_registers.specs.Held.{register_of_scalar}
-use Rattle.src_tree.specs.Meaning.{variable_number}
-use Rattle.block_cache_gen.specs.Homes.{register_for, Setting, home_of, pin_at}
-use Rattle.block_cache_gen.specs.Notes.{claim_by, claimed_where_used, slot_claims}
-use Rattle.block_cache_gen.specs.Settings.{IsFrame, setting_of}
-use Rattle.block_cache_gen.specs.Variables.{claim_in, claims_in, home_in, variable_of}
+use Rattle.held_registers.specs.Prelude.{register_of_scalar}
+use Rattle.block_cache_gen.specs.Prelude.{register_for, Setting, home_of, pin_at, claim_by, claimed_where_used, slot_claims, IsFrame, setting_of, claim_in, claims_in, home_in, variable_of}
 use Rattle.block_cache_gen.proofs.KnownNames.{found_few, found_held, found_home, found_label, found_length, declared_found, lost_label, slots_used}
 
 some_word : (n : Option ℕ) → LengthFits n → 1 ≤ words_of_length n

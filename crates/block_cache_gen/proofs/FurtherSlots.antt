@@ -5,11 +5,10 @@ use Rattle.std.proofs.Math.Nat.{div-lt_iff_lt-mul, mul-le-mul_left}
 use Rattle.std.proofs.lemmas.Bool.{and_parts, cases_lt, eqb-true, eq-eqb}
 use Rattle.std.proofs.lemmas.List.{get_or-take, length-take, take_all}
 use Rattle.bank_alloc.specs.declared.places.Place.{Place}
-use Rattle.bank_alloc.specs.Places.{blocks_for}
+use Rattle.bank_alloc.specs.Prelude.{blocks_for}
 use Rattle.bank_alloc.proofs.EachPlace.{blocks_for-hold}
-use Rattle.scratch_alloc.specs.Plans.{pin_to}
-use Rattle.block_cache_gen.specs.Homes.{Pin}
-use Rattle.block_cache_gen.specs.Settings.{is_pinned, is_pin_to, slot_from, further_blocks, four_slots}
+use Rattle.scratch_alloc.specs.Prelude.{pin_to}
+use Rattle.block_cache_gen.specs.Prelude.{Pin, is_pinned, is_pin_to, slot_from, further_blocks, four_slots}
 
 -- the slot that is found is pinned to the block, if some slot is
 pin_same : (p : Option Pin) (bank block : ℕ) → is_pin_to p bank block ≡ true → p ≡ Some (pin_to bank block)

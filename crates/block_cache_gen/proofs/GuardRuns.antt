@@ -1,33 +1,13 @@
 -- The code of a guard, run, leaves its two sides; a branch on them is taken where they compare so.
-use Rattle.std.proofs.Common.{◌≡◌, ℕ, ◌+◌, ◌≤◌, true, false, ℤ, [], ◌++◌, Some, refl, sym, ap, ◌∙◌, arith}
-use Rattle.std.specs.Prelude.{slice_get}
-use Rattle.gr_word.specs.Words.{compared}
-use Rattle.gr_word.specs.declared.operations.Cmp.{Cmp}
-use Rattle.lt_isa.specs.declared.instructions.Instr.TheVariants.{Br}
-use Rattle.lt_isa.specs.Object.{Parts}
-use Rattle.lt_isa.specs.Ranges.{IsInRange}
-use Rattle.lt_isa.specs.Machine.{State, register}
-use Rattle.lt_isa.specs.Costs.{greatest_cost}
-use Rattle.lt_isa.specs.Shape.{IsShaped}
-use Rattle.lt_isa.specs.Step.{target_of}
-use Rattle.stretches.specs.Standing.{StandsAt}
-use Rattle.stretches.specs.Coming.{Comes, RunsThrough}
-use Rattle.stretches.proofs.Coming.{comes-br_taken, comes-br_on}
+use Rattle.std.proofs.Common.{ℕ, ◌+◌, ◌≤◌, ◌++◌, sym, ap, ◌∙◌, arith}
+use Rattle.lt_isa.specs.Prelude.{Parts, IsInRange, State, IsShaped}
+use Rattle.stretches.specs.Prelude.{StandsAt, RunsThrough}
 use Rattle.stretches.proofs.RunningThrough.{runs-append, runs-weaker}
-use Rattle.src_tree.specs.Contexts.{context_of}
-use Rattle.src_tree.specs.Heights.{height_of}
-use Rattle.src_tree.specs.Meaning.{Store, evaluated}
-use Rattle.src_tree.specs.Trees.{Test}
-use Rattle.src_tree.specs.Typing.{TypedTest}
-use Rattle.scalar_ranges.specs.Ranges.{AreWithin}
+use Rattle.src_tree.specs.Prelude.{context_of, height_of, Store, evaluated, Test, TypedTest}
+use Rattle.scalar_ranges.specs.Prelude.{AreWithin}
 use Rattle.block_cache_gen.specs.declared.frames.Mode.{Mode}
-use Rattle.block_cache_gen.specs.Homes.{Setting, HasHomes}
-use Rattle.block_cache_gen.specs.Codes.{expr_code, guard_code}
-use Rattle.block_cache_gen.specs.StandsFor.{StandsFor, FitsHomes}
-use Rattle.block_cache_gen.specs.Accesses.{accesses, test_accesses, slots_after, seen_of_all}
-use Rattle.block_cache_gen.specs.LeavesWord.{LeavesWord, LeavesBoth}
+use Rattle.block_cache_gen.specs.Prelude.{Setting, HasHomes, expr_code, guard_code, StandsFor, FitsHomes, accesses, test_accesses, slots_after, seen_of_all, LeavesWord, LeavesBoth}
 use Rattle.block_cache_gen.proofs.AccessLaws.{slots_after-append, seen_of_all-append}
-use Rattle.block_cache_gen.proofs.Stands.{stands-like}
 use Rattle.block_cache_gen.proofs.ExpressionRuns.{runs-expression}
 
 module _ (o : Parts) (fits : IsInRange o) (f : Setting) (homes : HasHomes o f) (store : Store)
@@ -71,54 +51,3 @@ module _ (o : Parts) (fits : IsInRange o) (f : Setting) (homes : HasHomes o f) (
       })))
       (sym (seen_of_all-append mode s.banks s.slots before then))
       (λ u shape done. done)
-
-  -- a branch on the two sides
-  both-compared : (cmp : Cmp) (t : Test) (to : ℕ) (s u : State) → LeavesBoth f store (test_accesses f store t) to
-      (evaluated f.decls store t.left) (evaluated f.decls store t.right) s u
-      → compared cmp (register u to) (register u (to + 1))
-      ≡ compared cmp (evaluated f.decls store t.left) (evaluated f.decls store t.right)
-  both-compared cmp t to s u leaves =
-      ap (λ v. compared cmp v (register u (to + 1))) leaves.first
-      ∙ ap (λ v. compared cmp (evaluated f.decls store t.left) v) leaves.second
-
-  -- at another place and another cycle the two sides are still there
-  both-stay : (t : Test) (to place cycle : ℕ) (s u : State) → LeavesBoth f store (test_accesses f store t) to
-      (evaluated f.decls store t.left) (evaluated f.decls store t.right) s u → LeavesBoth f store
-      (test_accesses f store t) to (evaluated f.decls store t.left) (evaluated f.decls store t.right) s
-      (record u { place = place; cycle = cycle })
-  both-stay t to place cycle s u leaves = record {
-    first = leaves.first;
-    second = leaves.second;
-    below = leaves.below;
-    banks = leaves.banks;
-    slots = leaves.slots;
-    stands = stands-like f u (record u { place = place; cycle = cycle }) store refl refl (λ r over. refl) leaves.stands;
-  }
-
-  pub branch-taken : (cmp : Cmp) (t : Test) (to : ℕ) (offset : ℤ) (s u : State) → IsShaped o u
-      → slice_get o.code u.place ≡ Some (Br cmp to (to + 1) offset) → LeavesBoth f store (test_accesses f store t) to
-      (evaluated f.decls store t.left) (evaluated f.decls store t.right) s u
-      → compared cmp (evaluated f.decls store t.left) (evaluated f.decls store t.right) ≡ true
-      → Comes o u [] (target_of o u.place offset) (greatest_cost o (Br cmp to (to + 1) offset)) (LeavesBoth f store
-      (test_accesses f store t) to (evaluated f.decls store t.left) (evaluated f.decls store t.right) s)
-  branch-taken cmp t to offset s u shaped at leaves holds =
-      comes-br_taken o fits u shaped cmp to (to + 1) offset
-      (LeavesBoth f store (test_accesses f store t) to (evaluated f.decls store t.left)
-      (evaluated f.decls store t.right) s)
-      at
-      (both-compared cmp t to s u leaves ∙ holds)
-      (both-stay t to (target_of o u.place offset) (u.cycle + o.profile.taken) s u leaves)
-
-  pub branch-passed : (cmp : Cmp) (t : Test) (to : ℕ) (offset : ℤ) (s u : State) → IsShaped o u
-      → slice_get o.code u.place ≡ Some (Br cmp to (to + 1) offset) → LeavesBoth f store (test_accesses f store t) to
-      (evaluated f.decls store t.left) (evaluated f.decls store t.right) s u
-      → compared cmp (evaluated f.decls store t.left) (evaluated f.decls store t.right) ≡ false
-      → Comes o u [] (u.place + 1) (greatest_cost o (Br cmp to (to + 1) offset)) (LeavesBoth f store
-      (test_accesses f store t) to (evaluated f.decls store t.left) (evaluated f.decls store t.right) s)
-  branch-passed cmp t to offset s u shaped at leaves fails =
-      comes-br_on o fits u shaped cmp to (to + 1) offset
-      (LeavesBoth f store (test_accesses f store t) to (evaluated f.decls store t.left)
-      (evaluated f.decls store t.right) s)
-      at
-      (both-compared cmp t to s u leaves ∙ fails)
-      (both-stay t to (u.place + 1) (u.cycle + 1) s u leaves)

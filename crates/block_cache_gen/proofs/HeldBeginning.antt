@@ -9,30 +9,21 @@ use Rattle.gr_word.specs.declared.operations.Op.TheVariants.{Sub}
 use Rattle.gr_word.specs.declared.variables.Label.{Label}
 use Rattle.gr_word.specs.declared.variables.Shape.TheVariants.{Scalar}
 use Rattle.lt_isa.specs.declared.instructions.Instr.TheVariants.{Li, Alu, Ldw}
-use Rattle.lt_isa.specs.Object.{Parts, block_words}
-use Rattle.lt_isa.specs.Ranges.{IsInRange}
-use Rattle.lt_isa.specs.Machine.{State, register, slot, word_in, slot_words}
-use Rattle.lt_isa.specs.Shape.{IsShaped}
-use Rattle.lt_isa.specs.Step.{word_named}
-use Rattle.stretches.specs.Standing.{StandsAt, greatest_costs}
-use Rattle.stretches.specs.Coming.{Comes, RunsThrough, Sets}
+use Rattle.lt_isa.specs.Prelude.{Parts, block_words, IsInRange, State, register, slot, word_in, slot_words, IsShaped, word_named}
+use Rattle.stretches.specs.Prelude.{StandsAt, greatest_costs, Comes, RunsThrough, Sets}
 use Rattle.stretches.proofs.Coming.{comes-here}
 use Rattle.stretches.proofs.RunningThrough.{runs-cons, runs-one, runs-append, runs-weaker, sets-li, sets-alu, sets-ldw}
 use Rattle.src_tree.specs.declared.trees.Decl.{Decl}
-use Rattle.src_tree.specs.Contexts.{context_of, label_and_shape, shape_of}
-use Rattle.src_tree.specs.Meaning.{Store, variable_number, scalar}
-use Rattle.src_tree.specs.Typing.{DeclaredOnce}
+use Rattle.src_tree.specs.Prelude.{context_of, label_and_shape, shape_of, Store, variable_number, scalar, DeclaredOnce}
 use Rattle.src_tree.proofs.VariableNumbers.{kind-at_number, number-of_declared}
-use Rattle.held_registers.specs.declared.registers.Held.TheVariants as thing
-use Rattle.held_registers.specs.Held.{held_at, word_held, IsSoundHeld}
+use Rattle.held_registers.specs.Prelude.{held_at, word_held, IsSoundHeld}
 use Rattle.held_registers.proofs.Copies.{sub-itself}
 use Rattle.held_registers.proofs.Found.{held-high}
-use Rattle.block_cache_gen.specs.HeldCodes.{home_numbered, begin_code, each_held, held_beginning, HasSecretSlot}
-use Rattle.block_cache_gen.specs.Homes.{Held, Home, Setting, HasHomes, home_of, no_home, pin_of, slot_of_word, words_a_block, further_slots}
-use Rattle.block_cache_gen.specs.StandsFor.{StandsFor}
+use Rattle.block_cache_gen.specs.Prelude.{home_numbered, begin_code, each_held, held_beginning, HasSecretSlot, Held, Home, Setting, HasHomes, home_of, no_home, pin_of, slot_of_word, words_a_block, further_slots, StandsFor}
 use Rattle.block_cache_gen.proofs.HomeFacts.{block_words-is}
 use Rattle.block_cache_gen.proofs.WordSlots.{one-block, single-slot}
 use Rattle.block_cache_gen.proofs.HeldScalars.{held-listed, held-inside}
+use Rattle.held_registers.specs.declared.registers.Held.TheVariants as thing
 
 -- a setting in which no register holds anything
 abbrev pub unheld : Setting → Setting

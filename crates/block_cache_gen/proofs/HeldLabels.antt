@@ -8,13 +8,11 @@ use Rattle.gr_word.specs.declared.variables.Label.{Label}
 use Rattle.gr_word.specs.declared.variables.Label.TheVariants.{Public, Secret}
 use Rattle.gr_word.specs.declared.variables.Shape.{Shape}
 use Rattle.src_tree.specs.declared.trees.Decl.{Decl}
-use Rattle.src_tree.specs.Contexts.{context_of, label_and_shape}
-use Rattle.src_tree.specs.Meaning.{variable_number}
+use Rattle.src_tree.specs.Prelude.{context_of, label_and_shape, variable_number}
 use Rattle.held_registers.specs.declared.registers.Held.TheVariants.{SecretZero, Number, Scalar}
-use Rattle.held_registers.specs.Held.{held_at, secret_zero, public_zero, IsSoundHeld}
+use Rattle.held_registers.specs.Prelude.{held_at, secret_zero, public_zero, IsSoundHeld}
 use Rattle.held_registers.proofs.Found.{held-high, scalar-held}
-use Rattle.block_cache_gen.specs.Homes.{Held, Setting, held_label, label_by, register_for}
-use Rattle.block_cache_gen.specs.Codes.{zero_of}
+use Rattle.block_cache_gen.specs.Prelude.{Held, Setting, held_label, label_by, register_for, zero_of}
 
 -- the label of a declared name, by its number
 label_by_name : (same : Bool) (d : Decl) (ds : List Decl) (n : ℕ) (kind : Label × Shape)

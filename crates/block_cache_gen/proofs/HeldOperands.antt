@@ -1,18 +1,14 @@
 -- An operand in a register that holds its value for the whole run: what the register holds, that it stays, and that the
 -- operand makes no access.
 use Rattle.std.proofs.Common.{◌≡◌, ℕ, ◌<◌, ◌≤◌, Bool, true, false, List, [], length, Option, Some, None, refl, sym, ◌∙◌, arith, inl, inr}
-use Rattle.lt_isa.specs.Machine.{State, register}
-use Rattle.src_tree.specs.Meaning.{Store, variable_number, evaluated}
-use Rattle.src_tree.specs.Trees.{Tree, Number, Variable, Element, Operation}
-use Rattle.held_registers.specs.declared.registers.Held.TheVariants as thing
-use Rattle.held_registers.specs.Held.{held_at, word_held, IsSoundHeld}
+use Rattle.lt_isa.specs.Prelude.{State, register}
+use Rattle.src_tree.specs.Prelude.{Store, variable_number, evaluated, Tree, Number, Variable, Element, Operation}
+use Rattle.held_registers.specs.Prelude.{held_at, word_held, IsSoundHeld}
 use Rattle.held_registers.proofs.Found.{held-high, scalar-held, number-held}
-use Rattle.word_selection.specs.SlotSteps.{IsOutside}
-use Rattle.block_cache_gen.specs.Homes.{Held, Setting}
-use Rattle.block_cache_gen.specs.Codes.{operand, operand_part, operand_register, operand_unless}
-use Rattle.block_cache_gen.specs.StandsFor.{StandsFor}
-use Rattle.block_cache_gen.specs.Accesses.{accesses}
+use Rattle.word_selection.specs.Prelude.{IsOutside}
+use Rattle.block_cache_gen.specs.Prelude.{Held, Setting, operand, operand_part, operand_register, operand_unless, StandsFor, accesses}
 use Rattle.block_cache_gen.proofs.HeldScalars.{held-inside}
+use Rattle.held_registers.specs.declared.registers.Held.TheVariants as thing
 
 -- a register holds the word of an expression that accesses nothing
 pub record HoldsOperand (f : Setting) (e : Tree) (r : ℕ) : Type 0 where

@@ -11,14 +11,13 @@ use Rattle.gr_word.specs.declared.variables.Label.{Label}
 use Rattle.gr_word.specs.declared.variables.Shape.{Shape}
 use Rattle.gr_word.specs.declared.variables.Shape.TheVariants.{Scalar, Array}
 use Rattle.src_tree.specs.declared.trees.Decl.{Decl}
-use Rattle.src_tree.specs.Contexts.{context_of, shape_of, label_and_shape}
-use Rattle.src_tree.specs.Meaning.{Store, variable_number, with_word}
+use Rattle.src_tree.specs.Prelude.{context_of, shape_of, label_and_shape, Store, variable_number, with_word}
 use Rattle.src_tree.proofs.VariableNumbers.{kind-of_number}
-use Rattle.held_registers.specs.declared.registers.Held.TheVariants as thing
-use Rattle.held_registers.specs.Held.{held_at, word_held, is_scalar, register_of_scalar, IsSoundHeld}
+use Rattle.held_registers.specs.Prelude.{held_at, word_held, is_scalar, register_of_scalar, IsSoundHeld}
 use Rattle.held_registers.proofs.Found.{held-high, scalar-held}
-use Rattle.block_cache_gen.specs.Homes.{Held, Setting, register_for}
+use Rattle.block_cache_gen.specs.Prelude.{Held, Setting, register_for}
 use Rattle.block_cache_gen.proofs.Stores.{words-other}
+use Rattle.held_registers.specs.declared.registers.Held.TheVariants as thing
 
 -- what a register holds, by its place in the list
 pub held-listed : (held : List Held) (r : ℕ) (h : Held) → held_at held r ≡ Some h → slice_get held (r - 19) ≡ Some h

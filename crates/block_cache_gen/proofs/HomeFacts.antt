@@ -4,19 +4,15 @@ use Rattle.std.proofs.Math.Bool.{and-false}
 use Rattle.std.proofs.lemmas.Bool.{cases_lt, lt-ltb, ltb-true}
 use Rattle.std.specs.Prelude.{nat_lt, if◌then◌else◌, List, ◌↔◌}
 use Rattle.std.proofs.lemmas.Nat.{div-mul-add, mod-mul-add}
-use Rattle.gr_base.specs.Lists.{Within}
+use Rattle.gr_base.specs.Prelude.{Within}
 use Rattle.gr_word.specs.declared.variables.Label.{Label}
 use Rattle.gr_word.specs.declared.variables.Label.TheVariants.{Public, Secret}
 use Rattle.gr_word.specs.declared.variables.Shape.TheVariants.{Array}
-use Rattle.src_tree.specs.Contexts.{context_of}
-use Rattle.bank_alloc.specs.Apart.{scalar_bank}
-use Rattle.lt_isa.specs.Object.{Parts, block_words, blocks_of}
-use Rattle.lt_isa.specs.Ranges.{IsInRange, ProfileFits}
+use Rattle.src_tree.specs.Prelude.{context_of}
+use Rattle.bank_alloc.specs.Prelude.{scalar_bank}
+use Rattle.lt_isa.specs.Prelude.{Parts, block_words, blocks_of, IsInRange, ProfileFits}
 use Rattle.lt_isa.proofs.Cycles.{blocks-most}
-use Rattle.block_cache_gen.specs.Codes.{has_offset}
-use Rattle.block_cache_gen.specs.Homes.{Home, Setting, HasHomes, Pin, home_of, pin_at, IsArrayHome, Serves, PlainSlot, EncryptedSlot, ObliviousSlot, words_a_block, start_of_home}
-use Rattle.block_cache_gen.specs.StandsFor.{IsBlockOf}
-use Rattle.block_cache_gen.specs.PublicIndexes.{shows_index}
+use Rattle.block_cache_gen.specs.Prelude.{has_offset, Home, Setting, HasHomes, Pin, home_of, pin_at, IsArrayHome, Serves, PlainSlot, EncryptedSlot, ObliviousSlot, words_a_block, start_of_home, IsBlockOf, shows_index}
 
 -- an array that begins its block
 pub offset-none : (h : Home) → (h.word == 0) ≡ true → has_offset h ≡ false

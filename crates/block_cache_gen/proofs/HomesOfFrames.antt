@@ -4,17 +4,14 @@ use Rattle.std.proofs.lemmas.Bool.{cases_lt}
 use Rattle.std.proofs.Math.Nat.{mul-le-mul_left}
 use Rattle.std.proofs.Math.Pow.{pow_mono}
 use Rattle.lt_isa.proofs.SymbolPlaces.{most_blocks-le}
-use Rattle.src_tree.specs.Meaning.{variable_number}
-use Rattle.src_tree.specs.Trees.{Source, source_of}
+use Rattle.src_tree.specs.Prelude.{variable_number, Source, source_of}
 use Rattle.src_tree.proofs.VariableNumbers.{number-below}
 use Rattle.src_tree.specs.declared.trees.Decl.{Decl}
 use Rattle.bank_alloc.specs.declared.places.Place.{Place}
-use Rattle.scratch_alloc.specs.Plans.{Plan, IsSoundPlan, IsSoundByPin, IsSpread, pin_of_slot, pin_to, no_decl, no_place}
+use Rattle.scratch_alloc.specs.Prelude.{Plan, IsSoundPlan, IsSoundByPin, IsSpread, pin_of_slot, pin_to, no_decl, no_place}
 use Rattle.scratch_alloc.proofs.Serving.{serves-within}
 use Rattle.block_cache_gen.specs.declared.frames.Frame.{Frame}
-use Rattle.block_cache_gen.specs.Homes.{Pin, further_slots, no_home}
-use Rattle.block_cache_gen.specs.ServedBlocks.{block_served, first_blocks}
-use Rattle.block_cache_gen.specs.Settings.{IsFrame, home_at, homes_at, plan_of, setting_of}
+use Rattle.block_cache_gen.specs.Prelude.{Pin, further_slots, no_home, block_served, first_blocks, IsFrame, home_at, homes_at, plan_of, setting_of}
 use Rattle.block_cache_gen.proofs.FrameParts.{frame_places, frame_slots}
 use Rattle.block_cache_gen.proofs.FurtherSlots.{further_blocks-is, single_place, unpinned_place}
 use Rattle.block_cache_gen.proofs.RangesOfCode.{HomeFits, HomesFit}

@@ -3,40 +3,32 @@ use Rattle.std.proofs.Common.{◌≡◌, ◌≢◌, ℕ, zero, suc, ◌+◌, ◌
 use Rattle.std.specs.Prelude.{if◌then◌else◌}
 use Rattle.std.specs.List.{range_with_len, list_any}
 use Rattle.std.proofs.lemmas.Bool.{or_cases, and_parts, false≢true}
-use Rattle.gr_word.specs.Words.{IsWord, applied, compared, unsigned_of}
+use Rattle.gr_word.specs.Prelude.{IsWord, applied, compared, unsigned_of}
 use Rattle.gr_word.specs.declared.operations.Op.{Op}
 use Rattle.gr_word.specs.declared.operations.Op.TheVariants.{Add, Remu, And, Shr}
 use Rattle.gr_word.specs.declared.operations.Cmp.TheVariants.{Lt}
 use Rattle.gr_word.proofs.SmallNumbers.{remu_small, and_small, shr_small, add_small}
 use Rattle.lt_isa.specs.declared.instructions.Instr.TheVariants.{Li, Alu, Br}
-use Rattle.lt_isa.specs.Object.{Parts}
-use Rattle.lt_isa.specs.Ranges.{IsInRange}
-use Rattle.lt_isa.specs.Machine.{State, register}
-use Rattle.lt_isa.specs.Shape.{IsShaped}
+use Rattle.lt_isa.specs.Prelude.{Parts, IsInRange, State, register, IsShaped}
 use Rattle.lt_isa.proofs.Shapes.{IsWord-register}
-use Rattle.stretches.specs.Standing.{StandsAt, greatest_costs}
-use Rattle.stretches.specs.Coming.{RunsThrough, Sets}
+use Rattle.stretches.specs.Prelude.{StandsAt, greatest_costs, RunsThrough, Sets}
 use Rattle.stretches.proofs.Standing.{standing-head}
 use Rattle.stretches.proofs.Coming.{comes-br_taken, comes-br_on, comes-weaker}
 use Rattle.stretches.proofs.RunningThrough.{runs-append, runs-cons, runs-one, runs-weaker, sets-li, sets-alu}
-use Rattle.src_tree.specs.Meaning.{Store, evaluated}
-use Rattle.held_registers.specs.declared.registers.Held.TheVariants as thing
+use Rattle.src_tree.specs.Prelude.{Store, evaluated, Tree}
 use Rattle.held_registers.proofs.Found.{number-held}
-use Rattle.src_tree.specs.Trees.{Tree}
-use Rattle.scalar_ranges.specs.Known.{is_within}
-use Rattle.scalar_ranges.specs.Ranges.{AreWithin}
+use Rattle.scalar_ranges.specs.Prelude.{is_within, AreWithin}
 use Rattle.scalar_ranges.proofs.Values.{within-below}
 use Rattle.block_cache_gen.specs.declared.frames.Mode.{Mode}
 use Rattle.block_cache_gen.specs.declared.indexes.Numbering.{Numbering}
 use Rattle.block_cache_gen.specs.declared.indexes.Numbering.TheVariants.{Compared, Reduced, Within}
-use Rattle.block_cache_gen.specs.Homes.{Home, Setting}
-use Rattle.block_cache_gen.specs.StandsFor.{StandsFor}
+use Rattle.block_cache_gen.specs.Prelude.{Home, Setting, StandsFor, numbered_register, is_power, is_masked, is_cached, is_in_place, is_within_home, index_operand, numbering, numbering_by, compares, operand, operand_unless, operand_part, operand_register, held_number, applied_code, reducing, reducer, reduced_code, least_word, compared_code, numbered_code, shift_code, fixed_code, fixed_word}
 use Rattle.block_cache_gen.proofs.Stands.{stands-like}
-use Rattle.block_cache_gen.specs.Codes.{numbered_register, is_power, is_masked, is_cached, is_in_place, is_within_home, index_operand, numbering, numbering_by, compares, operand, operand_unless, operand_part, operand_register, held_number, applied_code, reducing, reducer, reduced_code, least_word, compared_code, numbered_code, shift_code, fixed_code, fixed_word}
 use Rattle.block_cache_gen.proofs.HomeFacts.{offset-none}
 use Rattle.block_cache_gen.proofs.NearIndexes.{near-index, own-remainder}
 use Rattle.block_cache_gen.proofs.Kept.{Keeps, keeps-set, keeps-on, keeps-lower}
 use Rattle.block_cache_gen.proofs.OperandRuns.{runs-nothing}
+use Rattle.held_registers.specs.declared.registers.Held.TheVariants as thing
 
 -- The number of a word is in register `to`, and that of its block in the next one; the registers below and those
 -- from 19 on, the slots and the banks are as before.

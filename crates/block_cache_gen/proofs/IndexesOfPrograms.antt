@@ -9,23 +9,15 @@ use Rattle.gr_word.specs.declared.variables.Label.{Label}
 use Rattle.gr_word.specs.declared.variables.Label.TheVariants.{Public, Secret}
 use Rattle.gr_word.specs.declared.variables.Shape.{Shape}
 use Rattle.gr_word.specs.declared.variables.Shape.TheVariants.{Scalar, Array}
-use Rattle.lt_isa.specs.Object.{Parts}
+use Rattle.lt_isa.specs.Prelude.{Parts}
 use Rattle.src_tree.specs.declared.trees.Decl.{Decl}
-use Rattle.src_tree.specs.Contexts.{context_of, label_and_shape, shape_of}
-use Rattle.src_tree.specs.Labels.{inside, label_or_public, label_at, label_of, secret_label}
-use Rattle.src_tree.specs.Meaning.{variable_number}
-use Rattle.src_tree.specs.Trees.{Tree, Number, Variable, Element, Operation, Test, Statement, SetVariable, SetElement, Choice, Loop, Block, Nothing, Then, Source}
-use Rattle.src_tree.specs.Typing.{Flows, TypedTree, TypedTest, TypedStatement, TypedBlock}
+use Rattle.src_tree.specs.Prelude.{context_of, label_and_shape, shape_of, inside, label_or_public, label_at, label_of, secret_label, variable_number, Tree, Number, Variable, Element, Operation, Test, Statement, SetVariable, SetElement, Choice, Loop, Block, Nothing, Then, Source, Flows, TypedTree, TypedTest, TypedStatement, TypedBlock}
 use Rattle.bank_alloc.specs.declared.classes.Class.TheVariants.{ObliviousArray}
-use Rattle.bank_alloc.specs.Apart.{scalar_bank}
-use Rattle.bank_alloc.specs.Classes.{class_by}
-use Rattle.bank_alloc.specs.Indexes.{secret_index_in, secret_index_in_test, secret_index_in_statement, secret_index_in_block, has_secret_index}
+use Rattle.bank_alloc.specs.Prelude.{scalar_bank, class_by, secret_index_in, secret_index_in_test, secret_index_in_statement, secret_index_in_block, has_secret_index}
 use Rattle.src_tree.proofs.NoTypingFault.{public}
 use Rattle.src_tree.proofs.VariableNumbers.{number-below, kind-of_number}
-use Rattle.scratch_alloc.specs.Plans.{Plan, IsSoundPlan, IsSoundByPin, pin_of_slot, no_decl, no_place}
-use Rattle.block_cache_gen.specs.Homes.{Setting, Pin, home_of, no_home}
-use Rattle.block_cache_gen.specs.Settings.{home_at, homes_at}
-use Rattle.block_cache_gen.specs.PublicIndexes.{shows_index, IndexIsPublic, HasPublicIndexes, TestHasPublicIndexes, StatementHasPublicIndexes, BlockHasPublicIndexes}
+use Rattle.scratch_alloc.specs.Prelude.{Plan, IsSoundPlan, IsSoundByPin, pin_of_slot, no_decl, no_place}
+use Rattle.block_cache_gen.specs.Prelude.{Setting, Pin, home_of, no_home, home_at, homes_at, shows_index, IndexIsPublic, HasPublicIndexes, TestHasPublicIndexes, StatementHasPublicIndexes, BlockHasPublicIndexes}
 use Rattle.block_cache_gen.proofs.Settled.{IsSettingOf, get_or-homes_at}
 
 -- secret arrays of plain and encrypted memory

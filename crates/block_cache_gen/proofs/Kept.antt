@@ -1,8 +1,8 @@
 -- What short code keeps that sets registers from some number on: the registers below it and those from 19 on, which hold
 -- something for the whole run, the slots and the banks.
 use Rattle.std.proofs.Common.{◌≡◌, ℕ, ◌<◌, ◌≤◌, ℤ, ◌∙◌, arith}
-use Rattle.lt_isa.specs.Machine.{State, register}
-use Rattle.stretches.specs.Coming.{Sets}
+use Rattle.lt_isa.specs.Prelude.{State, register}
+use Rattle.stretches.specs.Prelude.{Sets}
 
 pub record Keeps (n : ℕ) (s t : State) : Type 0 where
   pub below : (r : ℕ) → r < n → register t r ≡ register s r

@@ -1,17 +1,11 @@
 -- What is known after public code of an expression that writes no register below one.
 use Rattle.std.proofs.Common.{◌≡◌, ℕ, ◌+◌, ◌<◌, ◌≤◌, true, false, length}
-use Rattle.lt_isa.specs.Object.{Parts}
-use Rattle.src_tree.specs.Contexts.{context_of}
-use Rattle.src_tree.specs.Labels.{label_of}
-use Rattle.src_tree.specs.Trees.{Tree}
-use Rattle.trace_patterns.specs.Known.{Known, is_secret, is_marked}
-use Rattle.stretches.specs.Passing.{Passes}
+use Rattle.lt_isa.specs.Prelude.{Parts}
+use Rattle.src_tree.specs.Prelude.{context_of, label_of, Tree}
+use Rattle.trace_patterns.specs.Prelude.{Known, is_secret, is_marked}
+use Rattle.stretches.specs.Prelude.{Passes}
 use Rattle.block_cache_gen.specs.declared.frames.Mode.TheVariants.{Public}
-use Rattle.block_cache_gen.specs.Homes.{Setting}
-use Rattle.block_cache_gen.specs.Codes.{expr_code}
-use Rattle.block_cache_gen.specs.Carries.{Carries}
-use Rattle.block_cache_gen.specs.Notes.{base_mask}
-use Rattle.block_cache_gen.specs.PublicCode.{HasLabel}
+use Rattle.block_cache_gen.specs.Prelude.{Setting, expr_code, Carries, base_mask, HasLabel}
 
 -- Each register of expressions that a mask doesn't mark is below a register, and is public; of those that hold something
 -- for the whole run the mask says what notes between statements say.

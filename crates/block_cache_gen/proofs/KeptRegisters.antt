@@ -2,12 +2,11 @@
 -- all slots.
 use Rattle.std.proofs.Common.{◌≡◌, ◌≢◌, ℕ, ◌<◌, ◌≤◌, Bool, true, false, ◌||◌, length, Some, refl, sym, ap, ◌∙◌, subst, ⊎_elim, arith, length-set}
 use Rattle.std.proofs.lemmas.Bool.{cases_eq}
-use Rattle.trace_patterns.specs.Known.{Known, is_secret, bank_known, is_marked, set_secret, set_bank}
+use Rattle.trace_patterns.specs.Prelude.{Known, is_secret, bank_known, is_marked, set_secret, set_bank}
 use Rattle.stretches.proofs.Passed.{secret-same, secret-other, bank-same, bank-other}
 use Rattle.gr_word.specs.declared.variables.Label.{Label}
-use Rattle.src_tree.specs.Labels.{secret_label}
-use Rattle.block_cache_gen.specs.Homes.{Setting, held_label}
-use Rattle.block_cache_gen.specs.Carries.{Carries}
+use Rattle.src_tree.specs.Prelude.{secret_label}
+use Rattle.block_cache_gen.specs.Prelude.{Setting, held_label, Carries}
 use Rattle.block_cache_gen.proofs.KeptBelow.{KeptBelow}
 use Rattle.block_cache_gen.proofs.HeldLabels.{label-high, one-label}
 

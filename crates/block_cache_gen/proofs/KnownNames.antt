@@ -6,17 +6,13 @@ use Rattle.gr_word.specs.declared.variables.Label.{Label}
 use Rattle.gr_word.specs.declared.variables.Label.TheVariants.{Public}
 use Rattle.gr_word.specs.declared.variables.Shape.{Shape}
 use Rattle.src_tree.specs.declared.trees.Decl.{Decl}
-use Rattle.src_tree.specs.Contexts.{context_of, label_and_shape}
-use Rattle.src_tree.specs.Labels.{label_at, label_or_public}
-use Rattle.src_tree.specs.Meaning.{variable_number}
+use Rattle.src_tree.specs.Prelude.{context_of, label_and_shape, label_at, label_or_public, variable_number}
 use Rattle.bank_alloc.specs.declared.places.Place.{Place}
-use Rattle.bank_alloc.specs.Places.{blocks_for}
+use Rattle.bank_alloc.specs.Prelude.{blocks_for}
 use Rattle.src_tree.proofs.Contexts.{swapped}
 use Rattle.block_cache_gen.specs.declared.variables.Variable.{Variable}
-use Rattle.held_registers.specs.Held.{register_of_scalar}
-use Rattle.block_cache_gen.specs.Homes.{Held, Home, Pin, no_home}
-use Rattle.block_cache_gen.specs.Settings.{home_at, homes_at, is_pinned}
-use Rattle.block_cache_gen.specs.Variables.{home_in, variable_at, variable_of}
+use Rattle.held_registers.specs.Prelude.{register_of_scalar}
+use Rattle.block_cache_gen.specs.Prelude.{Held, Home, Pin, no_home, home_at, homes_at, is_pinned, home_in, variable_at, variable_of}
 
 -- one more declaration in front, from place k on
 pub one_more : (pins : List (Option Pin)) (w : ℕ) (held : List Held) (ds : List Decl) (places : List Place) (slots : List ℕ) (k : ℕ) (d : Decl)

@@ -3,21 +3,17 @@ use Rattle.std.proofs.Common.{◌≡◌, ℕ, zero, suc, ◌+◌, ◌<◌, ◌==
 use Rattle.std.specs.Prelude.{if◌then◌else◌, bytes_eq, slice_index_or}
 use Rattle.std.specs.List.{list_any}
 use Rattle.std.proofs.lemmas.Bool.{eqb-true, eq-eqb, true≢false, false≢true}
-use Rattle.gr_base.specs.Lists.{EachAfter, Within}
+use Rattle.gr_base.specs.Prelude.{EachAfter, Within}
 use Rattle.gr_base.proofs.ListTests.{bytes_eq-own}
 use Rattle.gr_word.specs.declared.variables.Label.{Label}
 use Rattle.gr_word.specs.declared.variables.Shape.{Shape}
 use Rattle.gr_word.specs.declared.variables.Shape.TheVariants.{Scalar, Array}
-use Rattle.lt_isa.specs.Object.{Parts}
+use Rattle.lt_isa.specs.Prelude.{Parts}
 use Rattle.src_tree.specs.declared.trees.Decl.{Decl}
-use Rattle.src_tree.specs.Contexts.{context_of, label_and_shape}
-use Rattle.src_tree.specs.Meaning.{variable_number}
-use Rattle.src_tree.specs.Typing.{DeclaredOnce}
+use Rattle.src_tree.specs.Prelude.{context_of, label_and_shape, variable_number, DeclaredOnce}
 use Rattle.src_tree.proofs.VariableNumbers.{number-below}
-use Rattle.trace_patterns.specs.Known.{Known, bank_known}
-use Rattle.block_cache_gen.specs.Homes.{Home, Setting, HasHomes, home_of, no_home, pin_at, pin_of}
-use Rattle.block_cache_gen.specs.Notes.{is_used}
-use Rattle.block_cache_gen.specs.Carries.{Carries}
+use Rattle.trace_patterns.specs.Prelude.{Known, bank_known}
+use Rattle.block_cache_gen.specs.Prelude.{Home, Setting, HasHomes, home_of, no_home, pin_at, pin_of, is_used, Carries}
 use Rattle.block_cache_gen.proofs.HomeFacts.{bank_served, served_bank, pinned-apart}
 
 -- the name of a declaration by its number

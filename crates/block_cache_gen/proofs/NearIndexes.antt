@@ -3,10 +3,10 @@ use Rattle.std.proofs.Common.{◌≡◌, ℕ, suc, ◌+◌, ◌-◌, ◌%◌, �
 use Rattle.std.specs.Int.{cast_signed, int_wrap}
 use Rattle.std.proofs.lemmas.Bool.{ltb-true, false≢true}
 use Rattle.std.proofs.lemmas.Int.{ints, int_wrap_fits, to_z_pos}
-use Rattle.gr_word.specs.Words.{IsWord, applied, compared, unsigned_of}
+use Rattle.gr_word.specs.Prelude.{IsWord, applied, compared, unsigned_of}
 use Rattle.gr_word.specs.declared.operations.Op.TheVariants.{Add}
 use Rattle.gr_word.specs.declared.operations.Cmp.TheVariants.{Lt}
-use Rattle.block_cache_gen.specs.Codes.{least_word}
+use Rattle.block_cache_gen.specs.Prelude.{least_word}
 
 -- 2^63 less than a word that isn't negative
 lowered : (m : ℕ) → m < 2 ^ 63 → applied Add least_word (pos m) ≡ negsuc (9223372036854775807 - m)

@@ -3,15 +3,13 @@ use Rattle.std.proofs.Common.{◌≡◌, ◌≢◌, ℕ, zero, suc, ◌<◌, ◌
 use Rattle.std.specs.Prelude.{if◌then◌else◌}
 use Rattle.std.proofs.lemmas.Bool.{cases_eq, cases_lt, true≢false, false≢true}
 use Rattle.std.proofs.lemmas.List.{get_or_past}
-use Rattle.gr_base.specs.Lists.{Within}
+use Rattle.gr_base.specs.Prelude.{Within}
 use Rattle.gr_word.specs.declared.variables.Label.TheVariants.{Public}
-use Rattle.lt_isa.specs.Object.{Parts}
-use Rattle.src_tree.specs.Typing.{DeclaredOnce}
-use Rattle.trace_patterns.specs.Known.{Known, is_secret, bank_known, is_marked, claimed_bank, marks, claims, FitsClaim, note_known}
+use Rattle.lt_isa.specs.Prelude.{Parts}
+use Rattle.src_tree.specs.Prelude.{DeclaredOnce}
+use Rattle.trace_patterns.specs.Prelude.{Known, is_secret, bank_known, is_marked, claimed_bank, marks, claims, FitsClaim, note_known}
 use Rattle.trace_patterns.proofs.Masks.{length-marks, get_or-marks, length-claims, get_or-claims}
-use Rattle.block_cache_gen.specs.Homes.{Pin, Setting, HasHomes, home_of, pin_at}
-use Rattle.block_cache_gen.specs.Notes.{base_mask, unmarked, is_used, claimed_where_used, claim_by, slot_claims, note_of}
-use Rattle.block_cache_gen.specs.Carries.{Carries}
+use Rattle.block_cache_gen.specs.Prelude.{Pin, Setting, HasHomes, home_of, pin_at, base_mask, unmarked, is_used, claimed_where_used, claim_by, slot_claims, note_of, Carries}
 use Rattle.block_cache_gen.proofs.BaseMarks.{base-held, base-public, unmarked-other}
 use Rattle.block_cache_gen.proofs.HeldLabels.{label-high, label-low}
 use Rattle.block_cache_gen.proofs.KeptBelow.{LeavesPublic}

@@ -1,16 +1,12 @@
 -- The labels of the registers that hold operands for the whole run.
 use Rattle.std.proofs.Common.{◌≡◌, ℕ, Option, Some, None, sym, ap, ◌∙◌}
-use Rattle.src_tree.specs.Contexts.{context_of}
-use Rattle.src_tree.specs.Labels.{label_of, label_or_public}
-use Rattle.src_tree.specs.Trees.{Tree, Number, Variable, Element, Operation}
-use Rattle.src_tree.specs.Typing.{TypedTree}
+use Rattle.src_tree.specs.Prelude.{context_of, label_of, label_or_public, Tree, Number, Variable, Element, Operation, TypedTree}
 use Rattle.gr_word.specs.declared.variables.Shape.{Shape}
 use Rattle.gr_word.specs.declared.variables.Shape.TheVariants.{Scalar}
 use Rattle.gr_word.specs.declared.variables.Label.{Label}
-use Rattle.held_registers.specs.Held.{IsSoundHeld}
+use Rattle.held_registers.specs.Prelude.{IsSoundHeld}
 use Rattle.held_registers.proofs.Found.{number-held}
-use Rattle.block_cache_gen.specs.Homes.{Setting, held_label, label_by}
-use Rattle.block_cache_gen.specs.Codes.{operand}
+use Rattle.block_cache_gen.specs.Prelude.{Setting, held_label, label_by, operand}
 use Rattle.block_cache_gen.proofs.HeldOperands.{IsOperandOf}
 use Rattle.block_cache_gen.proofs.HeldLabels.{register-label}
 

@@ -2,26 +2,15 @@
 -- that of an expression.
 use Rattle.std.proofs.Common.{◌≡◌, ℕ, ◌+◌, ◌<◌, ◌≤◌, false, List, [], ◌∷◌, ◌++◌, length, Option, Some, None, refl, ◌∙◌, subst, arith}
 use Rattle.gr_word.specs.declared.variables.Label.{Label}
-use Rattle.gr_word.specs.declared.variables.Label.TheVariants as label
 use Rattle.lt_isa.specs.declared.symbols.Note.{Note}
 use Rattle.lt_isa.specs.declared.instructions.Instr.{Instr}
-use Rattle.lt_isa.specs.Object.{Parts}
-use Rattle.src_tree.specs.Contexts.{context_of}
-use Rattle.src_tree.specs.Heights.{height_of}
-use Rattle.src_tree.specs.Labels.{label_of}
-use Rattle.src_tree.specs.Trees.{Tree}
-use Rattle.src_tree.specs.Typing.{TypedTree}
-use Rattle.trace_patterns.specs.Known.{Known, is_marked}
-use Rattle.trace_patterns.specs.Rules.{claimed_at}
-use Rattle.stretches.specs.Standing.{StandsAt}
-use Rattle.stretches.specs.Passing.{HoldsAt, AsItComes, Passes, Done, NotesBetween}
+use Rattle.lt_isa.specs.Prelude.{Parts}
+use Rattle.src_tree.specs.Prelude.{context_of, height_of, label_of, Tree, TypedTree}
+use Rattle.trace_patterns.specs.Prelude.{Known, is_marked, claimed_at}
+use Rattle.stretches.specs.Prelude.{StandsAt, HoldsAt, AsItComes, Passes, Done, NotesBetween}
 use Rattle.stretches.proofs.Passed.{GoesOn, passes-noted, notes-before, no_note-there, LieBetween}
 use Rattle.block_cache_gen.specs.declared.frames.Mode.TheVariants.{Public}
-use Rattle.block_cache_gen.specs.Homes.{Setting, HasHomes}
-use Rattle.block_cache_gen.specs.Codes.{operand_part, operand_register, expr_code}
-use Rattle.block_cache_gen.specs.Notes.{marked_by, operand_mask, expr_notes}
-use Rattle.block_cache_gen.specs.Carries.{Carries}
-use Rattle.block_cache_gen.specs.PublicCode.{HasLabel, StandsNoted}
+use Rattle.block_cache_gen.specs.Prelude.{Setting, HasHomes, operand_part, operand_register, expr_code, marked_by, operand_mask, expr_notes, Carries, HasLabel, StandsNoted}
 use Rattle.block_cache_gen.proofs.BaseMarks.{unmarked-same, unmarked-other}
 use Rattle.block_cache_gen.proofs.HeldOperands.{IsOperandOf}
 use Rattle.block_cache_gen.proofs.KeptBelow.{LeavesPublic, KeptBelow, PassedBelow}
@@ -29,6 +18,7 @@ use Rattle.block_cache_gen.proofs.KeptRegisters.{kept-itself}
 use Rattle.block_cache_gen.proofs.NoteClaims.{leaves-without, leaves-higher}
 use Rattle.block_cache_gen.proofs.NotesOfCode.{expression-longer, expression-lies}
 use Rattle.block_cache_gen.proofs.OperandLabels.{operand-label}
+use Rattle.gr_word.specs.declared.variables.Label.TheVariants as label
 
 -- what passing the code of an expression means, at any place
 abbrev pub ExprPasses : Parts → Setting → Tree → Type 0

@@ -1,21 +1,13 @@
 -- Runs of the code of an operand: afterwards its register has its value.
 use Rattle.std.proofs.Common.{◌≡◌, ℕ, ◌+◌, ◌<◌, ℤ, List, [], Option, Some, None, refl, sym, ◌∙◌, subst, arith}
 use Rattle.lt_isa.specs.declared.instructions.Instr.{Instr}
-use Rattle.lt_isa.specs.Object.{Parts}
-use Rattle.lt_isa.specs.Machine.{State, register}
-use Rattle.lt_isa.specs.Shape.{IsShaped}
-use Rattle.stretches.specs.Standing.{StandsAt, greatest_costs}
-use Rattle.stretches.specs.Coming.{Comes, RunsThrough}
+use Rattle.lt_isa.specs.Prelude.{Parts, State, register, IsShaped}
+use Rattle.stretches.specs.Prelude.{StandsAt, greatest_costs, Comes, RunsThrough}
 use Rattle.stretches.proofs.Coming.{comes-here}
 use Rattle.stretches.proofs.RunningThrough.{runs-weaker}
-use Rattle.src_tree.specs.Meaning.{Store, evaluated}
-use Rattle.src_tree.specs.Trees.{Tree}
+use Rattle.src_tree.specs.Prelude.{Store, evaluated, Tree}
 use Rattle.block_cache_gen.specs.declared.frames.Mode.{Mode}
-use Rattle.block_cache_gen.specs.Homes.{Setting}
-use Rattle.block_cache_gen.specs.Codes.{operand_part, operand_register, expr_code}
-use Rattle.block_cache_gen.specs.StandsFor.{StandsFor}
-use Rattle.block_cache_gen.specs.Accesses.{ArrayAccess, accesses, slots_after, seen_of_all}
-use Rattle.block_cache_gen.specs.LeavesWord.{LeavesWord}
+use Rattle.block_cache_gen.specs.Prelude.{Setting, operand_part, operand_register, expr_code, StandsFor, ArrayAccess, accesses, slots_after, seen_of_all, LeavesWord}
 use Rattle.block_cache_gen.proofs.HeldOperands.{HoldsOperand, IsOperandOf, operand-held}
 
 -- From state s to t: a word is in a register, the registers below `to` and the banks are as before, the accesses have

@@ -2,9 +2,8 @@
 use Rattle.std.proofs.Common.{◌≡◌, ℕ, ◌+◌, ◌≤◌, List, length, drop, refl, ap, ◌∙◌, arith}
 use Rattle.std.proofs.Math.ListN.{drop_of_length-le}
 use Rattle.src_tree.specs.declared.trees.Stmt.{Stmt}
-use Rattle.src_tree.specs.Trees.{Block, Nothing, Then, block_of_all}
-use Rattle.block_cache_gen.specs.Alike.{pair_count}
-use Rattle.block_cache_gen.specs.Homes.{Setting}
+use Rattle.src_tree.specs.Prelude.{Block, Nothing, Then, block_of_all}
+use Rattle.block_cache_gen.specs.Prelude.{pair_count, Setting}
 
 -- the statements from one on
 abbrev pub from : ℕ → List Stmt → Block

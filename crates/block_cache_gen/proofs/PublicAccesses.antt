@@ -5,31 +5,19 @@ use Rattle.gr_word.specs.declared.operations.Op.TheVariants.{Add}
 use Rattle.std.specs.Option.{option_map}
 use Rattle.std.proofs.lemmas.Bool.{cases_lt, ltb-true, ltb-false, and_parts, false≢true}
 use Rattle.gr_word.specs.declared.variables.Label.{Label}
-use Rattle.gr_word.specs.declared.variables.Label.TheVariants as label
 use Rattle.gr_word.specs.declared.variables.Shape.TheVariants.{Array}
 use Rattle.lt_isa.specs.declared.symbols.Note.{Note}
 use Rattle.lt_isa.specs.declared.instructions.Instr.{Instr}
-use Rattle.lt_isa.specs.Object.{Parts}
-use Rattle.src_tree.specs.Contexts.{context_of}
-use Rattle.src_tree.specs.Labels.{label_of, secret_label}
-use Rattle.src_tree.specs.Heights.{height_of}
-use Rattle.src_tree.specs.Trees.{Tree}
-use Rattle.src_tree.specs.Typing.{TypedTree, DeclaredOnce}
-use Rattle.trace_patterns.specs.Known.{Known, is_secret, bank_known, set_bank, set_secret, FitsClaim, note_known}
-use Rattle.trace_patterns.specs.Rules.{claimed_at}
-use Rattle.stretches.specs.Standing.{StandsAt}
-use Rattle.stretches.specs.Passing.{HoldsAt, AsItComes, AsClaimed, Passes, Done, NotesBetween}
+use Rattle.lt_isa.specs.Prelude.{Parts}
+use Rattle.src_tree.specs.Prelude.{context_of, label_of, secret_label, height_of, Tree, TypedTree, DeclaredOnce}
+use Rattle.trace_patterns.specs.Prelude.{Known, is_secret, bank_known, set_bank, set_secret, FitsClaim, note_known, claimed_at}
+use Rattle.stretches.specs.Prelude.{StandsAt, HoldsAt, AsItComes, AsClaimed, Passes, Done, NotesBetween}
 use Rattle.stretches.proofs.Standing.{standing-first, standing-rest}
 use Rattle.stretches.proofs.Passed.{passes-then, passes-to, passes-goes, passes-noted, no_note-before, no_note-behind, notes-before, notes-behind, no_note-there, notes-within, noted, bank-same, secret-same, rules-li, One, NoMore, LieBetween, lie_wider, lie_both}
 use Rattle.block_cache_gen.specs.declared.frames.Mode.TheVariants.{Public}
-use Rattle.block_cache_gen.specs.Homes.{Home, Setting, HasHomes, Serves, home_of, pin_of}
+use Rattle.block_cache_gen.specs.Prelude.{Home, Setting, HasHomes, Serves, home_of, pin_of, is_cached, is_masked, compares, is_within_home, numbering_by, is_in_place, numbering, reducing, reducer, compared_code, numbered_code, numbered_register, applied_code, fixed_index, reduced_code, shift_code, offset_code, placed_code, located_code, load_code, access_by, operand, operand_part, operand_register, operand_unless, index_operand, indexed_code, expr_code, unmarked, access_mask, note_of, compared_notes, loading_code, loaded_notes, load_notes, index_notes, expr_notes, Carries, HasLabel, shows_index, IndexIsPublic}
 use Rattle.block_cache_gen.specs.declared.indexes.Numbering.{Numbering}
 use Rattle.block_cache_gen.specs.declared.indexes.Numbering.TheVariants.{Compared, Reduced, Within}
-use Rattle.block_cache_gen.specs.Codes.{is_cached, is_masked, compares, is_within_home, numbering_by, is_in_place, numbering, reducing, reducer, compared_code, numbered_code, numbered_register, applied_code, fixed_index, reduced_code, shift_code, offset_code, placed_code, located_code, load_code, access_by, operand, operand_part, operand_register, operand_unless, index_operand, indexed_code, expr_code}
-use Rattle.block_cache_gen.specs.Notes.{unmarked, access_mask, note_of, compared_notes, loading_code, loaded_notes, load_notes, index_notes, expr_notes}
-use Rattle.block_cache_gen.specs.Carries.{Carries}
-use Rattle.block_cache_gen.specs.PublicCode.{HasLabel}
-use Rattle.block_cache_gen.specs.PublicIndexes.{shows_index, IndexIsPublic}
 use Rattle.block_cache_gen.proofs.HeldOperands.{IsOperandOf, operand-unless, operand-apart}
 use Rattle.block_cache_gen.proofs.OperandPasses.{ExprPasses, kept-here, passes-here, operand-passes}
 use Rattle.block_cache_gen.proofs.KeptBelow.{LeavesPublic, KeptBelow}
@@ -41,6 +29,7 @@ use Rattle.block_cache_gen.proofs.AccessLabels.{shifted-numbered, reduced-number
 use Rattle.block_cache_gen.proofs.IndexRuns.{numbered-apart}
 use Rattle.block_cache_gen.proofs.Sizes.{applied_some, compared_some, offset_length, shift_some}
 use Rattle.block_cache_gen.proofs.HomeFacts.{offset-none, serves-oblivious, serves-cached, shows-cached, shown-low}
+use Rattle.gr_word.specs.declared.variables.Label.TheVariants as label
 
 -- the code of an access, and its notes
 abbrev pub array_code : Setting → ℕ → List ℕ → Tree → List Instr

@@ -3,31 +3,20 @@ use Rattle.std.proofs.Common.{◌≡◌, ◌≢◌, ℕ, ◌+◌, ◌<◌, ◌�
 use Rattle.std.specs.Option.{option_map}
 use Rattle.std.proofs.lemmas.List.{append-nil}
 use Rattle.gr_word.specs.declared.variables.Label.{Label}
-use Rattle.gr_word.specs.declared.variables.Label.TheVariants as label
 use Rattle.gr_word.specs.declared.variables.Shape.TheVariants.{Scalar, Array}
 use Rattle.gr_word.specs.declared.operations.Op.{Op}
 use Rattle.gr_word.specs.declared.operations.Op.TheVariants.{Add}
 use Rattle.lt_isa.specs.declared.instructions.Instr.{Instr}
 use Rattle.lt_isa.specs.declared.instructions.Instr.TheVariants.{Alu}
-use Rattle.lt_isa.specs.Object.{Parts}
-use Rattle.src_tree.specs.Contexts.{context_of}
-use Rattle.src_tree.specs.Heights.{height_of}
-use Rattle.src_tree.specs.Labels.{higher, label_or_public, label_at, label_of, secret_label}
-use Rattle.src_tree.specs.Trees.{Tree, Variable, Operation, SetVariable, SetElement}
-use Rattle.src_tree.specs.Typing.{TypedTree, TypedStatement, Flows, DeclaredOnce}
-use Rattle.bank_alloc.specs.Apart.{scalar_bank}
-use Rattle.trace_patterns.specs.Known.{Known, is_secret, bank_known, set_secret, note_known}
-use Rattle.trace_patterns.specs.Rules.{claimed_at}
-use Rattle.stretches.specs.Passing.{HoldsAt, NotesBetween, Passes}
+use Rattle.lt_isa.specs.Prelude.{Parts}
+use Rattle.src_tree.specs.Prelude.{context_of, height_of, higher, label_or_public, label_at, label_of, secret_label, Tree, Variable, Operation, SetVariable, SetElement, TypedTree, TypedStatement, Flows, DeclaredOnce}
+use Rattle.bank_alloc.specs.Prelude.{scalar_bank}
+use Rattle.trace_patterns.specs.Prelude.{Known, is_secret, bank_known, set_secret, note_known, claimed_at}
+use Rattle.stretches.specs.Prelude.{HoldsAt, NotesBetween, Passes}
 use Rattle.stretches.proofs.Standing.{standing-head, standing-first, standing-rest}
 use Rattle.stretches.proofs.Passed.{passes-one, passes-then, passes-to, GoesOn, NoMore, One, rules-li, rules-alu, rules-stw, secret-same, secret-other, notes-behind, notes-within, no_note-behind, LieBetween, lie_wider, lie_both}
 use Rattle.block_cache_gen.specs.declared.frames.Mode.TheVariants.{Public}
-use Rattle.block_cache_gen.specs.Homes.{Setting, HasHomes, home_of, register_for}
-use Rattle.block_cache_gen.specs.Codes.{fixed_index, numbering, operand, operand_part, operand_register, index_operand, stored_code, expr_code, set_code, zero_of, write_code, keeps_label, straight, straight_code, scalar_set}
-use Rattle.block_cache_gen.specs.Notes.{operand_mask, expr_notes, set_notes, straight_notes, scalar_set_notes, base_mask}
-use Rattle.block_cache_gen.specs.Carries.{Carries}
-use Rattle.block_cache_gen.specs.PublicIndexes.{HasPublicIndexes, SetHasPublicIndexes}
-use Rattle.block_cache_gen.specs.PublicCode.{HasLabel, StandsNoted, PassedSet}
+use Rattle.block_cache_gen.specs.Prelude.{Setting, HasHomes, home_of, register_for, fixed_index, numbering, operand, operand_part, operand_register, index_operand, stored_code, expr_code, set_code, zero_of, write_code, keeps_label, straight, straight_code, scalar_set, operand_mask, expr_notes, set_notes, straight_notes, scalar_set_notes, base_mask, Carries, HasPublicIndexes, SetHasPublicIndexes, HasLabel, StandsNoted, PassedSet}
 use Rattle.block_cache_gen.proofs.NotesOfCode.{store-longer, write-longer, operand-lie, expression-lies, access-lie}
 use Rattle.block_cache_gen.proofs.StraightCodes.{IsStraight, straight-by}
 use Rattle.block_cache_gen.proofs.HeldOperands.{operand-apart, operand-outside}
@@ -41,6 +30,7 @@ use Rattle.block_cache_gen.proofs.PublicAccesses.{array_code, array_notes, acces
 use Rattle.block_cache_gen.proofs.PublicExpressions.{expression-passes, higher_label, resident_bound}
 use Rattle.block_cache_gen.proofs.HomeFacts.{shows-plain, plain-array}
 use Rattle.block_cache_gen.proofs.NoteClaims.{leaves-base}
+use Rattle.gr_word.specs.declared.variables.Label.TheVariants as label
 
 -- what flows to a public variable is public
 flows_public : (code l : Label) → Flows (higher code l) label.Public → secret_label l ≡ false

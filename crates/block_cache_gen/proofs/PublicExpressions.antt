@@ -5,38 +5,27 @@ use Rattle.std.proofs.lemmas.List.{append-nil}
 use Rattle.std.specs.Option.{option_map}
 use Rattle.std.proofs.lemmas.Bool.{eq-eqb, ne_eqb}
 use Rattle.gr_word.specs.declared.variables.Label.{Label}
-use Rattle.gr_word.specs.declared.variables.Label.TheVariants as label
 use Rattle.gr_word.specs.declared.variables.Shape.{Shape}
 use Rattle.gr_word.specs.declared.variables.Shape.TheVariants.{Scalar, Array}
 use Rattle.gr_word.specs.declared.operations.Op.{Op}
 use Rattle.gr_word.specs.declared.operations.Op.TheVariants.{Add}
 use Rattle.lt_isa.specs.declared.instructions.Instr.{Instr}
 use Rattle.lt_isa.specs.declared.instructions.Instr.TheVariants.{Li, Alu, Ldw}
-use Rattle.lt_isa.specs.Object.{Parts, is_ram}
-use Rattle.src_tree.specs.Contexts.{context_of}
-use Rattle.src_tree.specs.Labels.{higher, label_or_public, label_of, secret_label}
-use Rattle.src_tree.specs.Trees.{Tree, Number, Variable, Element, Operation}
-use Rattle.src_tree.specs.Typing.{TypedTree, DeclaredOnce}
-use Rattle.bank_alloc.specs.Apart.{scalar_bank}
-use Rattle.trace_patterns.specs.Known.{Known, is_secret, bank_known, set_secret, note_known}
-use Rattle.trace_patterns.specs.Rules.{claimed_at}
+use Rattle.lt_isa.specs.Prelude.{Parts, is_ram}
+use Rattle.src_tree.specs.Prelude.{context_of, higher, label_or_public, label_of, secret_label, Tree, Number, Variable, Element, Operation, TypedTree, DeclaredOnce, height_of}
+use Rattle.bank_alloc.specs.Prelude.{scalar_bank}
+use Rattle.trace_patterns.specs.Prelude.{Known, is_secret, bank_known, set_secret, note_known, claimed_at}
 use Rattle.lt_isa.specs.declared.symbols.Note.{Note}
-use Rattle.stretches.specs.Passing.{HoldsAt, NotesBetween, Passes}
+use Rattle.stretches.specs.Prelude.{HoldsAt, NotesBetween, Passes}
 use Rattle.stretches.proofs.Standing.{standing-first, standing-rest, standing-head}
 use Rattle.stretches.proofs.Passed.{passes-then, passes-to, passes-one, passes-goes, passes-noted, NoMore, One, rules-li, rules-alu, rules-ldw, secret-same, notes-before, notes-behind, notes-within, no_note-behind, LieBetween, lie_wider, lie_both}
 use Rattle.block_cache_gen.specs.declared.frames.Mode.TheVariants.{Public}
-use Rattle.block_cache_gen.specs.Homes.{Setting, HasHomes, home_of, pin_of, register_for}
-use Rattle.block_cache_gen.specs.Codes.{fixed_index, read_code, scalar_code, operand, operand_part, operand_register, operand_unless, operation_code, steps_at, expr_code}
-use Rattle.strength_reduction.specs.Steps.{Step, numbered, code_of}
+use Rattle.block_cache_gen.specs.Prelude.{Setting, HasHomes, home_of, pin_of, register_for, fixed_index, read_code, scalar_code, operand, operand_part, operand_register, operand_unless, operation_code, steps_at, expr_code, operand_mask, operation_notes, expr_notes, Carries, IndexIsPublic, HasPublicIndexes, HasLabel, StandsNoted}
+use Rattle.strength_reduction.specs.Prelude.{Step, numbered, code_of}
 use Rattle.step_code.proofs.StepPasses.{passes-steps}
 use Rattle.block_cache_gen.proofs.StepsAt.{StepsOf, steps-of}
-use Rattle.src_tree.specs.Heights.{height_of}
 use Rattle.src_tree.proofs.TreeHeights.{height-some}
-use Rattle.block_cache_gen.specs.Notes.{operand_mask, operation_notes, expr_notes}
-use Rattle.block_cache_gen.specs.Carries.{Carries}
-use Rattle.block_cache_gen.specs.PublicIndexes.{IndexIsPublic, HasPublicIndexes}
-use Rattle.block_cache_gen.specs.PublicCode.{HasLabel, StandsNoted}
-use Rattle.held_registers.specs.Held.{public_zero}
+use Rattle.held_registers.specs.Prelude.{public_zero}
 use Rattle.block_cache_gen.proofs.OperandLabels.{is-operand}
 use Rattle.block_cache_gen.proofs.HeldLabels.{register-label, zero-label}
 use Rattle.block_cache_gen.proofs.KeptBelow.{LeavesPublic, KeptBelow}
@@ -47,6 +36,7 @@ use Rattle.block_cache_gen.proofs.KeptRegisters.{SameBelow, same-itself, same-se
 use Rattle.block_cache_gen.proofs.HomeFacts.{shows-plain, plain-array}
 use Rattle.block_cache_gen.proofs.SpreadPasses.{read-passes}
 use Rattle.block_cache_gen.proofs.PublicAccesses.{array_code, array_notes, access-passes}
+use Rattle.gr_word.specs.declared.variables.Label.TheVariants as label
 
 -- the bank of a resident variable
 pub resident_bound : (o : Parts) (f : Setting) → HasHomes o f → (k : Known) (x : List ℕ) (l : Label) (shape : Shape)

@@ -1,22 +1,13 @@
 -- The public code of a guard is passed, at any place.
 use Rattle.std.proofs.Common.{◌≡◌, ℕ, ◌+◌, ◌≤◌, ◌++◌, length, length-append, subst, arith}
-use Rattle.lt_isa.specs.Object.{Parts}
-use Rattle.src_tree.specs.Contexts.{context_of}
-use Rattle.src_tree.specs.Heights.{height_of}
-use Rattle.src_tree.specs.Labels.{label_of}
-use Rattle.src_tree.specs.Trees.{Test}
-use Rattle.src_tree.specs.Typing.{TypedTest, DeclaredOnce}
-use Rattle.trace_patterns.specs.Known.{Known}
-use Rattle.stretches.specs.Passing.{HoldsAt, AsItComes}
+use Rattle.lt_isa.specs.Prelude.{Parts}
+use Rattle.src_tree.specs.Prelude.{context_of, height_of, label_of, Test, TypedTest, DeclaredOnce}
+use Rattle.trace_patterns.specs.Prelude.{Known}
+use Rattle.stretches.specs.Prelude.{HoldsAt, AsItComes}
 use Rattle.stretches.proofs.Standing.{standing-first, standing-rest}
 use Rattle.stretches.proofs.Passed.{passes-then, passes-to, notes-before, notes-behind, no_note-there, notes-within, LieBetween, lie_wider, lie_both}
 use Rattle.block_cache_gen.specs.declared.frames.Mode.TheVariants.{Public}
-use Rattle.block_cache_gen.specs.Homes.{Setting, HasHomes}
-use Rattle.block_cache_gen.specs.Codes.{expr_code, guard_code}
-use Rattle.block_cache_gen.specs.Notes.{base_mask, marked_by, expr_notes, guard_notes}
-use Rattle.block_cache_gen.specs.Carries.{Carries}
-use Rattle.block_cache_gen.specs.PublicIndexes.{TestHasPublicIndexes}
-use Rattle.block_cache_gen.specs.PublicCode.{StandsNoted, PassedTest}
+use Rattle.block_cache_gen.specs.Prelude.{Setting, HasHomes, expr_code, guard_code, base_mask, marked_by, expr_notes, guard_notes, Carries, TestHasPublicIndexes, StandsNoted, PassedTest}
 use Rattle.block_cache_gen.proofs.NoteClaims.{leaves-base}
 use Rattle.block_cache_gen.proofs.NotesOfCode.{expression-longer, expression-lies}
 use Rattle.block_cache_gen.proofs.OperandPasses.{leaves-labelled, label-kept}

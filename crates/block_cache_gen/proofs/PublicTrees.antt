@@ -6,20 +6,14 @@ use Rattle.gr_word.specs.declared.operations.Op.TheVariants.{Add, Shr}
 use Rattle.gr_word.specs.declared.variables.Label.{Label}
 use Rattle.gr_word.specs.declared.variables.Label.TheVariants.{Public, Secret}
 use Rattle.gr_word.specs.declared.variables.Shape.TheVariants.{Scalar}
-use Rattle.lt_isa.specs.Object.{Parts, is_ram}
-use Rattle.symbolic_values.specs.Trees.{Value, Const, Reg, SlotAt, Apply}
-use Rattle.src_tree.specs.Contexts.{context_of}
-use Rattle.src_tree.specs.Labels.{higher, label_or_public, label_at, label_of}
-use Rattle.src_tree.specs.Trees.{Tree, Number, Variable, Element, Operation}
-use Rattle.src_tree.specs.Typing.{TypedTree}
-use Rattle.trace_patterns.specs.SymStates.{SymSlot, AnySlot, RamSlot, Entry, Loaded}
-use Rattle.trace_patterns.specs.Single.{applied_trees, word_tree}
-use Rattle.block_cache_gen.specs.Homes.{Held, Home, Setting, held_label, label_by, home_of, register_for, words_a_block, HasHomes}
-use Rattle.block_cache_gen.specs.Codes.{held_number, is_in_place, is_within_home, numbering_by, reducer, reducing, fixed_index, fixed_word, operand, operand_unless, steps_at}
-use Rattle.strength_reduction.specs.Steps.{Step, Constant, Compute, left_by, reads_known, replaced}
-use Rattle.block_cache_gen.specs.PatternsOf.{number_in, word_named_by, word_read, tree_by, scalar_tree, operand_tree, pinned_slot, placed_tree, element_by, block_named_by, index_by, numbered_tree, number_tree, reduced_tree, block_tree, block_loaded, element_slot, steps_tree, operation_tree, tree_of_expr}
+use Rattle.lt_isa.specs.Prelude.{Parts, is_ram}
+use Rattle.symbolic_values.specs.Prelude.{Value, Const, Reg, SlotAt, Apply}
+use Rattle.src_tree.specs.Prelude.{context_of, higher, label_or_public, label_at, label_of, Tree, Number, Variable, Element, Operation, TypedTree}
+use Rattle.trace_patterns.specs.Prelude.{SymSlot, AnySlot, RamSlot, Entry, Loaded, applied_trees, word_tree}
+use Rattle.block_cache_gen.specs.Prelude.{Held, Home, Setting, held_label, label_by, home_of, register_for, words_a_block, HasHomes, held_number, is_in_place, is_within_home, numbering_by, reducer, reducing, fixed_index, fixed_word, operand, operand_unless, steps_at, number_in, word_named_by, word_read, tree_by, scalar_tree, operand_tree, pinned_slot, placed_tree, element_by, block_named_by, index_by, numbered_tree, number_tree, reduced_tree, block_tree, block_loaded, element_slot, steps_tree, operation_tree, tree_of_expr}
+use Rattle.strength_reduction.specs.Prelude.{Step, Constant, Compute, left_by, reads_known, replaced}
 use Rattle.block_cache_gen.proofs.StepsAt.{steps-of}
-use Rattle.held_registers.specs.Held.{public_zero}
+use Rattle.held_registers.specs.Prelude.{public_zero}
 use Rattle.block_cache_gen.proofs.HeldOperands.{IsOperandOf, operand-unless}
 use Rattle.block_cache_gen.proofs.OperandLabels.{is-operand, operand-label}
 use Rattle.held_registers.proofs.Found.{number-held}

@@ -2,16 +2,11 @@
 -- f.ranges` is `f`, so each lemma also leads back.
 use Rattle.std.proofs.Common.{ℕ, inl, inr, ◌⊎◌}
 use Rattle.gr_word.specs.declared.variables.Label.{Label}
-use Rattle.lt_isa.specs.Object.{Parts, block_words}
-use Rattle.lt_isa.specs.Machine.{State}
-use Rattle.src_tree.specs.Meaning.{Store}
-use Rattle.src_tree.specs.Trees.{Tree, Number, Variable, Element, Operation, Test, Statement, SetVariable, SetElement, Choice, Loop, Block, Nothing, Then}
-use Rattle.trace_patterns.specs.Known.{Known}
-use Rattle.scalar_ranges.specs.Ranges.{Ranges}
-use Rattle.block_cache_gen.specs.Homes.{Home, Setting, ranged, HasHomes, IsArrayHome, IsInOneBlock, IsResidentHome, IsSpreadHome}
-use Rattle.block_cache_gen.specs.Carries.{Carries}
-use Rattle.block_cache_gen.specs.PublicIndexes.{HasPublicIndexes, TestHasPublicIndexes, StatementHasPublicIndexes, BlockHasPublicIndexes}
-use Rattle.block_cache_gen.specs.StandsFor.{FitsHomes, StandsFor}
+use Rattle.lt_isa.specs.Prelude.{Parts, block_words, State}
+use Rattle.src_tree.specs.Prelude.{Store, Tree, Number, Variable, Element, Operation, Test, Statement, SetVariable, SetElement, Choice, Loop, Block, Nothing, Then}
+use Rattle.trace_patterns.specs.Prelude.{Known}
+use Rattle.scalar_ranges.specs.Prelude.{Ranges}
+use Rattle.block_cache_gen.specs.Prelude.{Home, Setting, ranged, HasHomes, IsArrayHome, IsInOneBlock, IsResidentHome, IsSpreadHome, Carries, HasPublicIndexes, TestHasPublicIndexes, StatementHasPublicIndexes, BlockHasPublicIndexes, FitsHomes, StandsFor}
 use Rattle.block_cache_gen.proofs.RangesOfCode.{HomesFit}
 
 module _ (f : Setting) (known : Ranges) where

@@ -9,44 +9,36 @@ use Rattle.std.proofs.lemmas.Int.{ints, fits_signed_from_abs}
 use Rattle.std.proofs.lemmas.List.Elements.{All-nil, All-cons, All-head, All-tail}
 use Rattle.std.proofs.Math.Nat.{mod-lt, div-le_self, mul-le-mul_right}
 use Rattle.std.proofs.Math.Pow.{pow_mono}
-use Rattle.gr_base.specs.Lists.{Within}
-use Rattle.gr_word.specs.Words.{IsWord, unsigned_of}
+use Rattle.gr_base.specs.Prelude.{Within}
+use Rattle.gr_word.specs.Prelude.{IsWord, unsigned_of}
 use Rattle.gr_word.specs.declared.variables.Label.{Label}
-use Rattle.gr_word.specs.declared.variables.Label.TheVariants as label
 use Rattle.gr_word.specs.declared.variables.Shape.{Shape}
 use Rattle.gr_word.specs.declared.operations.Op.{Op}
 use Rattle.gr_word.specs.declared.operations.Op.TheVariants.{Add, Remu, Shr}
 use Rattle.gr_word.specs.declared.operations.Cmp.TheVariants.{Eq, Lt}
 use Rattle.lt_isa.specs.declared.instructions.Instr.{Instr}
 use Rattle.lt_isa.specs.declared.instructions.Instr.TheVariants.{Li, Alu, Ldb, Stb, Idb, Ldw, Stw, Br}
-use Rattle.lt_isa.specs.Ranges.{InstrFits}
-use Rattle.src_tree.specs.Contexts.{context_of}
-use Rattle.src_tree.specs.Heights.{height_of}
-use Rattle.src_tree.specs.Labels.{label_of}
-use Rattle.src_tree.specs.Limits.{max_length}
-use Rattle.src_tree.specs.Trees.{Tree, Number, Variable, Element, Operation, Test, SetVariable, SetElement}
-use Rattle.src_tree.specs.Typing.{TypedTree, TypedTest}
+use Rattle.lt_isa.specs.Prelude.{InstrFits}
+use Rattle.src_tree.specs.Prelude.{context_of, height_of, label_of, max_length, Tree, Number, Variable, Element, Operation, Test, SetVariable, SetElement, TypedTree, TypedTest}
 use Rattle.block_cache_gen.specs.declared.frames.Mode.{Mode}
 use Rattle.block_cache_gen.specs.declared.frames.Mode.TheVariants.{Public, Real, Mirrored}
-use Rattle.block_cache_gen.specs.Homes.{Pin, pin_at, Home, Setting, home_of, register_for, words_a_block, further_slots, slots_of_home, slot_of_word}
-use Rattle.held_registers.specs.Held.{secret_zero, public_zero, IsSoundHeld}
-use Rattle.block_cache_gen.specs.TreeWords.{HasWords}
+use Rattle.block_cache_gen.specs.Prelude.{Pin, pin_at, Home, Setting, home_of, register_for, words_a_block, further_slots, slots_of_home, slot_of_word, HasWords, is_masked, held_number, applied_code, reducing, reducer, is_in_place, numbering, least_word, numbered_code, numbered_register, fixed_index, fixed_word, shift_code, fixed_code, located_code, load_code, skips, access_by, placed_code, offset_code, stored_code, access_code, index_operand, indexed_code, operand, operand_part, operand_register, left_operand, expr_code, guard_code, store_code, set_code, operation_code, steps_at, copy_code, scalar_code, write_code, read_by, read_code, stored_among, stored_by, effect_of, straight, scalar_set, straight_code, target}
+use Rattle.held_registers.specs.Prelude.{secret_zero, public_zero, IsSoundHeld}
 use Rattle.block_cache_gen.specs.declared.indexes.Numbering.{Numbering}
-use Rattle.block_cache_gen.specs.declared.indexes.Numbering.TheVariants as numbers
-use Rattle.block_cache_gen.specs.Codes.{is_masked, held_number, applied_code, reducing, reducer, is_in_place, numbering, least_word, numbered_code, numbered_register, fixed_index, fixed_word, shift_code, fixed_code, located_code, load_code, skips, access_by, placed_code, offset_code, stored_code, access_code, index_operand, indexed_code, operand, operand_part, operand_register, left_operand, expr_code, guard_code, store_code, set_code, operation_code, steps_at, copy_code, scalar_code, write_code, read_by, read_code, stored_among, stored_by, effect_of, straight, scalar_set, straight_code, target}
-use Rattle.strength_reduction.specs.Steps.{Step, Constant, Compute, StepFits, numbered, code_of}
+use Rattle.strength_reduction.specs.Prelude.{Step, Constant, Compute, StepFits, numbered, code_of}
 use Rattle.step_code.proofs.Registers.{numbered-low}
-use Rattle.word_selection.specs.SlotSteps.{IsOutside}
-use Rattle.word_selection.specs.Selection.{selected_read, selected_write}
+use Rattle.word_selection.specs.Prelude.{IsOutside, selected_read, selected_write}
 use Rattle.word_selection.proofs.StepRanges.{read-in_range, write-in_range}
 use Rattle.src_tree.proofs.TreeHeights.{height-some}
-use Rattle.held_registers.specs.declared.registers.Held.TheVariants as thing
 use Rattle.held_registers.proofs.Found.{number-held}
 use Rattle.block_cache_gen.proofs.HeldScalars.{held-inside}
 use Rattle.block_cache_gen.proofs.HeldOperands.{operand-inside, operand-low, operand-outside, operand-unless}
 use Rattle.block_cache_gen.proofs.StepsAt.{steps-of}
 use Rattle.block_cache_gen.proofs.WordSlots.{few-further, got}
 use Rattle.block_cache_gen.proofs.StraightCodes.{straight-by}
+use Rattle.gr_word.specs.declared.variables.Label.TheVariants as label
+use Rattle.block_cache_gen.specs.declared.indexes.Numbering.TheVariants as numbers
+use Rattle.held_registers.specs.declared.registers.Held.TheVariants as thing
 
 -- a home in its ranges, if there are this many banks
 pub record HomeFits (banks : ℕ) (h : Home) : Type 0 where

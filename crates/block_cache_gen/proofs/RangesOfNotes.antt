@@ -6,34 +6,29 @@ use Rattle.std.proofs.lemmas.Bool.{lt-ltb}
 use Rattle.std.proofs.lemmas.Nat.{and_le_l}
 use Rattle.std.proofs.lemmas.List.{append-nil}
 use Rattle.std.proofs.lemmas.List.Elements.{All-nil, All-cons}
-use Rattle.gr_base.specs.Lists.{EachAfter}
+use Rattle.gr_base.specs.Prelude.{EachAfter}
 use Rattle.gr_base.proofs.AtLast.{at_last-push}
 use Rattle.gr_word.specs.declared.variables.Label.{Label}
-use Rattle.gr_word.specs.declared.variables.Label.TheVariants as label
 use Rattle.lt_isa.specs.declared.symbols.Note.{Note}
 use Rattle.lt_isa.specs.declared.instructions.Instr.{Instr}
 use Rattle.lt_isa.specs.declared.instructions.Instr.TheVariants.{Alu}
-use Rattle.lt_isa.specs.Ranges.{NoteFits, next_place, is_slot_claim}
-use Rattle.held_registers.specs.Held.{held_at}
+use Rattle.lt_isa.specs.Prelude.{NoteFits, next_place, is_slot_claim}
+use Rattle.held_registers.specs.Prelude.{held_at}
 use Rattle.src_tree.specs.declared.trees.Decl.{Decl}
-use Rattle.src_tree.specs.Contexts.{context_of}
-use Rattle.src_tree.specs.Labels.{label_of}
-use Rattle.src_tree.specs.Limits.{tree_weight, test_weight}
-use Rattle.src_tree.specs.Trees.{Tree, Number, Variable, Element, Operation, Test, Statement, SetVariable, SetElement, Choice, Loop}
+use Rattle.src_tree.specs.Prelude.{context_of, label_of, tree_weight, test_weight, Tree, Number, Variable, Element, Operation, Test, Statement, SetVariable, SetElement, Choice, Loop}
 use Rattle.block_cache_gen.specs.declared.frames.Mode.TheVariants.{Public}
-use Rattle.block_cache_gen.specs.Homes.{Pin, pin_at, Home, Setting, home_of, Held, label_by, register_for}
+use Rattle.block_cache_gen.specs.Prelude.{Pin, pin_at, Home, Setting, home_of, Held, label_by, register_for, is_cached, numbering, compared_code, shift_code, load_code, offset_code, access_by, fixed_index, stored_code, access_code, operand, operand_part, operand_register, left_operand, index_operand, operation_code, steps_at, expr_code, guard_code, set_code, write_code, read_code, straight, scalar_set, straight_code, unmarked, marked_by, operand_mask, is_used, claimed_where_used, claim_by, slot_claims, note_of, access_mask, compared_notes, loading_code, loaded_notes, load_notes, index_notes, operation_notes, expr_notes, guard_notes, set_notes, is_public, mask_to, base_mask, scalar_set_notes}
 use Rattle.block_cache_gen.specs.declared.indexes.Numbering.{Numbering}
 use Rattle.block_cache_gen.specs.declared.indexes.Numbering.TheVariants.{Compared, Reduced, Within}
-use Rattle.block_cache_gen.specs.Codes.{is_cached, numbering, compared_code, shift_code, load_code, offset_code, access_by, fixed_index, stored_code, access_code, operand, operand_part, operand_register, left_operand, index_operand, operation_code, steps_at, expr_code, guard_code, set_code, write_code, read_code, straight, scalar_set, straight_code}
 use Rattle.gr_word.specs.declared.operations.Op.{Op}
-use Rattle.strength_reduction.specs.Steps.{Step, code_of}
-use Rattle.block_cache_gen.specs.Notes.{unmarked, marked_by, operand_mask, is_used, claimed_where_used, claim_by, slot_claims, note_of, access_mask, compared_notes, loading_code, loaded_notes, load_notes, index_notes, operation_notes, expr_notes, guard_notes, set_notes, is_public, mask_to, base_mask, scalar_set_notes}
+use Rattle.strength_reduction.specs.Prelude.{Step, code_of}
 use Rattle.block_cache_gen.proofs.ElementCodes.{read-short, stored-short}
 use Rattle.block_cache_gen.proofs.NotesOfCode.{index_length, located-longer, access-longer, access-more, loading-behind, expression-longer}
 use Rattle.block_cache_gen.proofs.HeldOperands.{operand-short}
 use Rattle.block_cache_gen.proofs.Sizes.{shift_some}
 use Rattle.block_cache_gen.proofs.PublicAccesses.{array_code, array_notes}
 use Rattle.block_cache_gen.proofs.StraightCodes.{straight-length, straight-notes}
+use Rattle.gr_word.specs.declared.variables.Label.TheVariants as label
 
 -- Notes from one place on and before another, which rise, with masks of 32 registers, and the claims of a setting.
 abbrev pub NotesRise : Setting → (low high : ℕ) → List Note → Type 0

@@ -3,21 +3,17 @@ use Rattle.std.proofs.Common.{◌≡◌, ℕ, ◌<◌, ℤ, pos, List, length, g
 use Rattle.gr_word.specs.declared.variables.Label.{Label}
 use Rattle.gr_word.specs.declared.variables.Label.TheVariants.{Public, Secret}
 use Rattle.gr_word.specs.declared.variables.Shape.TheVariants.{Scalar}
-use Rattle.lt_isa.specs.Object.{Parts}
-use Rattle.lt_isa.specs.Machine.{State, register}
-use Rattle.src_tree.specs.Contexts.{context_of}
-use Rattle.src_tree.specs.Meaning.{Store, variable_number, words_of_number, scalar, scalar_set}
+use Rattle.lt_isa.specs.Prelude.{Parts, State, register}
+use Rattle.src_tree.specs.Prelude.{context_of, Store, variable_number, words_of_number, scalar, scalar_set}
 use Rattle.src_tree.proofs.VariableNumbers.{number-below}
-use Rattle.stretches.specs.Coming.{Sets}
-use Rattle.held_registers.specs.declared.registers.Held.TheVariants as thing
-use Rattle.held_registers.specs.Held.{secret_zero, public_zero, IsSoundHeld}
+use Rattle.stretches.specs.Prelude.{Sets}
+use Rattle.held_registers.specs.Prelude.{secret_zero, public_zero, IsSoundHeld}
 use Rattle.held_registers.proofs.Found.{scalar-held}
 use Rattle.held_registers.proofs.HeldWrites.{held-written}
-use Rattle.block_cache_gen.specs.Homes.{Setting, HasHomes, register_for}
-use Rattle.block_cache_gen.specs.Codes.{zero_of}
-use Rattle.block_cache_gen.specs.StandsFor.{StandsFor, FitsHomes}
+use Rattle.block_cache_gen.specs.Prelude.{Setting, HasHomes, register_for, zero_of, StandsFor, FitsHomes}
 use Rattle.block_cache_gen.proofs.HeldScalars.{array-free, held-inside, register-same}
 use Rattle.block_cache_gen.proofs.Stores.{words-other}
+use Rattle.held_registers.specs.declared.registers.Held.TheVariants as thing
 
 module _ (f : Setting) (sound : IsSoundHeld f.decls f.held) (s : State) (store : Store) (stands : StandsFor f s store)
     (x : List ℕ) (r : ℕ) (held : register_for f x ≡ Some r) where

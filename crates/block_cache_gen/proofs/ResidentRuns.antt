@@ -2,32 +2,21 @@
 use Rattle.std.proofs.Common.{◌≡◌, ◌≢◌, ℕ, ◌+◌, ◌/◌, ◌%◌, ◌^◌, ◌<◌, true, ℤ, pos, List, [], ◌∷◌, ◌++◌, get_or, append-nil, Option, Some, None, refl, sym, ap, ◌∙◌, subst, arith, mod-lt, pow_pos, ◌==◌, eqb-true}
 use Rattle.std.proofs.lemmas.Bool.{cond_both}
 use Rattle.std.proofs.lemmas.Nat.{pow_below}
-use Rattle.gr_word.specs.Words.{unsigned_of}
+use Rattle.gr_word.specs.Prelude.{unsigned_of}
 use Rattle.gr_word.proofs.SmallNumbers.{add_small}
 use Rattle.gr_word.specs.declared.operations.Op.TheVariants.{Add}
 use Rattle.gr_word.specs.declared.variables.Label.{Label}
 use Rattle.gr_word.specs.declared.variables.Shape.{Shape}
 use Rattle.lt_isa.specs.declared.instructions.Instr.{Instr}
 use Rattle.lt_isa.specs.declared.instructions.Instr.TheVariants.{Li, Ldw}
-use Rattle.lt_isa.specs.Object.{Parts, block_words}
-use Rattle.lt_isa.specs.Ranges.{IsInRange}
-use Rattle.lt_isa.specs.Machine.{State, register, slot, word_in, slot_words}
-use Rattle.lt_isa.specs.Shape.{IsShaped}
-use Rattle.lt_isa.specs.Step.{word_named}
-use Rattle.stretches.specs.Standing.{StandsAt}
-use Rattle.stretches.specs.Coming.{RunsThrough, Sets}
+use Rattle.lt_isa.specs.Prelude.{Parts, block_words, IsInRange, State, register, slot, word_in, slot_words, IsShaped, word_named}
+use Rattle.stretches.specs.Prelude.{StandsAt, RunsThrough, Sets}
 use Rattle.stretches.proofs.RunningThrough.{runs-one, runs-append, runs-weaker, sets-li, sets-ldw}
-use Rattle.src_tree.specs.Contexts.{context_of}
-use Rattle.src_tree.specs.Meaning.{Store, variable_number, words_of_number, evaluated}
-use Rattle.src_tree.specs.Trees.{Tree}
+use Rattle.src_tree.specs.Prelude.{context_of, Store, variable_number, words_of_number, evaluated, Tree}
 use Rattle.block_cache_gen.specs.declared.frames.Mode.{Mode}
 use Rattle.block_cache_gen.specs.declared.indexes.Numbering.{Numbering}
-use Rattle.block_cache_gen.specs.Homes.{pin_at, slot_of_word, words_a_block, Home, Setting, HasHomes, home_of, register_for}
-use Rattle.block_cache_gen.specs.Codes.{applied_code, fixed_index, fixed_word, numbered_code, numbered_register, offset_code, placed_code}
-use Rattle.scratch_alloc.specs.Plans.{pin_to}
-use Rattle.block_cache_gen.specs.StandsFor.{StandsFor, FitsHomes, HoldsBlock}
-use Rattle.block_cache_gen.specs.Accesses.{accesses, word_number, seen_of_all}
-use Rattle.block_cache_gen.specs.LeavesWord.{LeavesWord}
+use Rattle.block_cache_gen.specs.Prelude.{pin_at, slot_of_word, words_a_block, Home, Setting, HasHomes, home_of, register_for, applied_code, fixed_index, fixed_word, numbered_code, numbered_register, offset_code, placed_code, StandsFor, FitsHomes, HoldsBlock, accesses, word_number, seen_of_all, LeavesWord}
+use Rattle.scratch_alloc.specs.Prelude.{pin_to}
 use Rattle.block_cache_gen.proofs.HomeFacts.{block_words-is}
 use Rattle.block_cache_gen.proofs.WordSlots.{word-pinned, words-few}
 use Rattle.block_cache_gen.proofs.Stands.{stands-like, stands-set}

@@ -5,14 +5,11 @@ use Rattle.std.proofs.lemmas.Bool.{cases_eq, true≢false}
 use Rattle.std.proofs.lemmas.List.{get_or-set_same, get_or-set_other}
 use Rattle.gr_word.specs.declared.variables.Label.{Label}
 use Rattle.gr_word.specs.declared.variables.Shape.{Shape}
-use Rattle.lt_isa.specs.Object.{Parts, block_words}
-use Rattle.lt_isa.specs.Machine.{Slot, Unbound, Bound, State, slot, word_in, set_slot, slot_words}
-use Rattle.src_tree.specs.Contexts.{context_of}
-use Rattle.src_tree.specs.Meaning.{Store, variable_number, words_of_number, with_word}
+use Rattle.lt_isa.specs.Prelude.{Parts, block_words, Slot, Unbound, Bound, State, slot, word_in, set_slot, slot_words}
+use Rattle.src_tree.specs.Prelude.{context_of, Store, variable_number, words_of_number, with_word}
 use Rattle.src_tree.proofs.VariableNumbers.{number-below}
-use Rattle.block_cache_gen.specs.Homes.{Home, Pin, Setting, HasHomes, pin_at, no_home, home_of, slot_of_word, words_a_block, register_for, further_slots}
-use Rattle.scratch_alloc.specs.Plans.{pin_to}
-use Rattle.block_cache_gen.specs.StandsFor.{StandsFor, FitsHomes, HoldsBlock, HoldsBank}
+use Rattle.block_cache_gen.specs.Prelude.{Home, Pin, Setting, HasHomes, pin_at, no_home, home_of, slot_of_word, words_a_block, register_for, further_slots, StandsFor, FitsHomes, HoldsBlock, HoldsBank}
+use Rattle.scratch_alloc.specs.Prelude.{pin_to}
 use Rattle.block_cache_gen.proofs.HomeFacts.{block_words-is, pinned-apart}
 use Rattle.block_cache_gen.proofs.WordSlots.{one-block, single-slot, word-pinned}
 use Rattle.block_cache_gen.proofs.HeldScalars.{held-words}

@@ -1,28 +1,19 @@
 -- A word of a resident variable is written in its slot, and the machine then represents the store that is assigned.
 use Rattle.std.proofs.Common.{◌≡◌, ◌≢◌, ℕ, ◌+◌, ◌/◌, ◌%◌, ◌<◌, ◌≤◌, Bool, true, false, ℤ, pos, List, [], ◌∷◌, length, get_or, set, Some, None, refl, sym, ap, ◌∙◌, subst, arith}
 use Rattle.std.proofs.lemmas.List.{set-get_or}
-use Rattle.gr_word.specs.Words.{IsWord}
+use Rattle.gr_word.specs.Prelude.{IsWord}
 use Rattle.gr_word.specs.declared.variables.Label.{Label}
 use Rattle.gr_word.specs.declared.variables.Shape.{Shape}
 use Rattle.lt_isa.specs.declared.instructions.Instr.TheVariants.{Ldw, Stw}
-use Rattle.lt_isa.specs.Object.{Parts, block_words}
-use Rattle.lt_isa.specs.Ranges.{IsInRange}
-use Rattle.lt_isa.specs.Machine.{State, Slot, Unbound, Bound, register, slot, word_in, set_slot, slot_words}
-use Rattle.lt_isa.specs.Shape.{IsShaped}
-use Rattle.lt_isa.specs.Step.{word_named}
+use Rattle.lt_isa.specs.Prelude.{Parts, block_words, IsInRange, State, Slot, Unbound, Bound, register, slot, word_in, set_slot, slot_words, IsShaped, word_named}
 use Rattle.lt_isa.proofs.Steps.{bound-fits}
-use Rattle.stretches.specs.Standing.{StandsAt}
-use Rattle.stretches.specs.Coming.{RunsThrough, Sets}
+use Rattle.stretches.specs.Prelude.{StandsAt, RunsThrough, Sets}
 use Rattle.stretches.proofs.Coming.{comes-stw}
 use Rattle.stretches.proofs.RunningThrough.{runs-cons, runs-one, runs-weaker, sets-ldw}
-use Rattle.src_tree.specs.Contexts.{context_of}
-use Rattle.src_tree.specs.Meaning.{Store, variable_number, words_of_number, with_word}
+use Rattle.src_tree.specs.Prelude.{context_of, Store, variable_number, words_of_number, with_word}
 use Rattle.block_cache_gen.specs.declared.frames.Mode.{Mode}
 use Rattle.block_cache_gen.specs.declared.frames.Mode.TheVariants.{Public, Real, Mirrored}
-use Rattle.block_cache_gen.specs.Homes.{Setting, HasHomes, home_of, slot_of_word, words_a_block, register_for}
-use Rattle.block_cache_gen.specs.Codes.{store_code}
-use Rattle.block_cache_gen.specs.StandsFor.{StandsFor, FitsHomes, HoldsBlock}
-use Rattle.block_cache_gen.specs.Assignments.{Assigns, by_mode, words_written}
+use Rattle.block_cache_gen.specs.Prelude.{Setting, HasHomes, home_of, slot_of_word, words_a_block, register_for, store_code, StandsFor, FitsHomes, HoldsBlock, Assigns, by_mode, words_written}
 use Rattle.block_cache_gen.proofs.HomeFacts.{block_words-is}
 use Rattle.block_cache_gen.proofs.Stands.{stands-like}
 use Rattle.block_cache_gen.proofs.Stores.{fits-with_word, with_word-by_mode}

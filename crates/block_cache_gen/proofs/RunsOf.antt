@@ -1,16 +1,9 @@
 -- The code that is made of expressions, guards and assignments does what they mean, at any place.
 use Rattle.std.proofs.Common.{ℕ, ◌+◌, ◌≤◌, arith}
 use Rattle.gr_word.specs.declared.variables.Label.{Label}
-use Rattle.src_tree.specs.Contexts.{context_of}
-use Rattle.src_tree.specs.Heights.{height_of}
-use Rattle.src_tree.specs.Limits.{LowStatement}
-use Rattle.src_tree.specs.Trees.{Tree, Test, Statement, SetVariable, SetElement, Choice, Loop}
-use Rattle.src_tree.specs.Typing.{TypedTree, TypedTest, TypedStatement}
+use Rattle.src_tree.specs.Prelude.{context_of, height_of, LowStatement, Tree, Test, Statement, SetVariable, SetElement, Choice, Loop, TypedTree, TypedTest, TypedStatement}
 use Rattle.block_cache_gen.specs.declared.frames.Mode.{Mode}
-use Rattle.block_cache_gen.specs.Homes.{Setting}
-use Rattle.block_cache_gen.specs.Codes.{expr_code, guard_code, set_code}
-use Rattle.block_cache_gen.specs.Assignments.{IsAssignment}
-use Rattle.block_cache_gen.specs.RunsOf.{Evaluates, EvaluatesTest, Performs}
+use Rattle.block_cache_gen.specs.Prelude.{Setting, expr_code, guard_code, set_code, IsAssignment, Evaluates, EvaluatesTest, Performs}
 use Rattle.block_cache_gen.proofs.ExpressionRuns.{runs-expression}
 use Rattle.block_cache_gen.proofs.GuardRuns.{runs-guard}
 use Rattle.block_cache_gen.proofs.AssignmentRuns.{runs-set_variable, runs-set_element}

@@ -1,10 +1,10 @@
 -- The comparison of two operations is the test of the definitions.
 use Rattle.std.proofs.Common.{◌≡◌, Bool, true, false, refl, sym, subst, rules}
-use denote.Enum.Bare.{sameb, same_true, same_false}
 use Rattle.gr_word.specs.declared.operations.Op.{Op}
 use Rattle.gr_word.specs.contracts.operations.Op.{the_type}
-use Rattle.symbolic_values.specs.Sameness.{same_op}
+use Rattle.symbolic_values.specs.Prelude.{same_op}
 use Rattle.symbolic_values.proofs.TreeEquality.{same_op-true, same_op-own}
+use denote.Enum.Bare.{sameb, same_true, same_false}
 
 false_unless : (b : Bool) → (b ≡ true → ⊥) → false ≡ b
 false_unless true never = absurd (never refl)

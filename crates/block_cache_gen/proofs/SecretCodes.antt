@@ -7,24 +7,19 @@ use Rattle.std.proofs.lemmas.List.Sums.{sum_by-append}
 use Rattle.gr_word.specs.declared.operations.Op.TheVariants.{Add, Shr}
 use Rattle.lt_isa.specs.declared.instructions.Instr.{Instr}
 use Rattle.lt_isa.specs.declared.instructions.Instr.TheVariants.{Li, Alu, Ldw}
-use Rattle.src_tree.specs.Contexts.{context_of}
-use Rattle.src_tree.specs.Labels.{label_of, secret_label}
+use Rattle.src_tree.specs.Prelude.{context_of, label_of, secret_label, Tree, Number, Variable, Element, Operation, Test, Statement, SetVariable, SetElement, Choice, Loop}
 use Rattle.gr_word.specs.declared.variables.Label.{Label}
-use Rattle.held_registers.specs.Held.{public_zero, IsSoundHeld}
+use Rattle.held_registers.specs.Prelude.{public_zero, IsSoundHeld}
 use Rattle.block_cache_gen.proofs.HeldLabels.{register-own}
-use Rattle.src_tree.specs.Trees.{Tree, Number, Variable, Element, Operation, Test, Statement, SetVariable, SetElement, Choice, Loop}
 use Rattle.block_cache_gen.specs.declared.frames.Mode.{Mode}
 use Rattle.block_cache_gen.specs.declared.frames.Mode.TheVariants.{Real, Mirrored}
-use Rattle.block_cache_gen.specs.Homes.{Home, Setting, home_of, register_for}
+use Rattle.block_cache_gen.specs.Prelude.{Home, Setting, home_of, register_for, read_code, may_skip_loads, is_cached, is_masked, fixed_index, held_number, applied_code, reducing, reducer, shift_code, located_code, offset_code, placed_code, stored_code, access_by, load_code, skips, access_code, operand, operand_part, operand_register, left_operand, index_operand, indexed_code, expr_code, guard_code, set_code, operation_code, steps_at, is_within_home, numbering_by, numbering, numbered_code, numbered_register, zero_of, scalar_code, store_code, write_code, straight, scalar_set, straight_code, target, set_stores, is_store, stored_words, Itself, Dropped, Mirrors, Ends, Goes}
 use Rattle.block_cache_gen.specs.declared.indexes.Numbering.{Numbering}
 use Rattle.block_cache_gen.specs.declared.indexes.Numbering.TheVariants.{Compared, Reduced, Within}
-use Rattle.block_cache_gen.specs.Codes.{read_code, may_skip_loads, is_cached, is_masked, fixed_index, held_number, applied_code, reducing, reducer, shift_code, located_code, offset_code, placed_code, stored_code, access_by, load_code, skips, access_code, operand, operand_part, operand_register, left_operand, index_operand, indexed_code, expr_code, guard_code, set_code, operation_code, steps_at, is_within_home, numbering_by, numbering, numbered_code, numbered_register, zero_of, scalar_code, store_code, write_code, straight, scalar_set, straight_code, target}
 use Rattle.gr_word.specs.declared.operations.Op.{Op}
-use Rattle.strength_reduction.specs.Steps.{Step}
+use Rattle.strength_reduction.specs.Prelude.{Step}
 use Rattle.block_cache_gen.proofs.SpreadWrites.{mirrors-append, mirrors-itself, read-counts, read-stores, store-mirrors, store-stores, stored-mirrors, stored-stores}
 use Rattle.block_cache_gen.proofs.StepsAt.{steps-stores}
-use Rattle.block_cache_gen.specs.StoredWords.{set_stores, is_store, stored_words}
-use Rattle.block_cache_gen.specs.Twins.{Itself, Dropped, Mirrors, Ends, Goes}
 use Rattle.block_cache_gen.proofs.StraightCodes.{straight-by}
 
 -- an expression's code depends on the mode only in being public or secret

@@ -3,18 +3,13 @@ use Rattle.std.proofs.Common.{◌≡◌, ℕ, ◌+◌, ◌<◌, pos, List, lengt
 use Rattle.std.specs.Option.{unwrap_or}
 use Rattle.gr_word.specs.declared.operations.Cmp.{Cmp}
 use Rattle.lt_isa.specs.declared.instructions.Instr.{Instr}
-use Rattle.lt_isa.specs.Object.{Parts}
-use Rattle.symbolic_values.specs.Trees.{Value}
-use Rattle.trace_patterns.specs.Shape.{most_regions}
-use Rattle.trace_patterns.specs.Walk.{CrossesTo, untaken_way, taken_way}
-use Rattle.stretches.specs.Shows.{Show, pattern_of}
-use Rattle.stretches.specs.InArms.{StandsInArm}
-use Rattle.trace_patterns.specs.SymStates.{SymSlot, SymState, tree_held, slot_held, common_tree, common_slot, common}
+use Rattle.lt_isa.specs.Prelude.{Parts}
+use Rattle.symbolic_values.specs.Prelude.{Value}
+use Rattle.trace_patterns.specs.Prelude.{most_regions, CrossesTo, untaken_way, taken_way, SymSlot, SymState, tree_held, slot_held, common_tree, common_slot, common}
+use Rattle.stretches.specs.Prelude.{Show, pattern_of, StandsInArm}
 use Rattle.trace_patterns.proofs.SymStateLaws.{IsSized, tree-common, slot-common, sized-common, own_tree, own_slot}
 use Rattle.stretches.proofs.ArmRegions.{region_code, region-crosses, walked-region}
-use Rattle.block_cache_gen.specs.Homes.{Setting}
-use Rattle.block_cache_gen.specs.Carries.{CarriesInArm, held_tree}
-use Rattle.block_cache_gen.specs.PatternsOf.{Loads}
+use Rattle.block_cache_gen.specs.Prelude.{Setting, CarriesInArm, held_tree, Loads}
 use Rattle.block_cache_gen.proofs.ArmStates.{carries-slots}
 use Rattle.block_cache_gen.proofs.ArmAssignments.{Goes}
 

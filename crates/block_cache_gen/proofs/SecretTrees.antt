@@ -7,19 +7,13 @@ use Rattle.gr_word.specs.declared.operations.Op.TheVariants.{Add}
 use Rattle.gr_word.specs.declared.variables.Label.{Label}
 use Rattle.gr_word.specs.declared.variables.Label.TheVariants.{Public, Secret}
 use Rattle.gr_word.specs.declared.variables.Shape.TheVariants.{Scalar, Array}
-use Rattle.lt_isa.specs.Object.{Parts, is_ram, is_eram}
-use Rattle.symbolic_values.specs.Trees.{Value, Const, Reg}
-use Rattle.src_tree.specs.Contexts.{context_of}
-use Rattle.src_tree.specs.Labels.{higher, label_or_public, label_at, label_of}
-use Rattle.src_tree.specs.Trees.{Tree, Number, Variable, Element, Operation}
-use Rattle.src_tree.specs.Typing.{Flows, TypedTree}
-use Rattle.trace_patterns.specs.SymStates.{OramSlot}
-use Rattle.trace_patterns.specs.Single.{applied_trees}
-use Rattle.held_registers.specs.Held.{public_zero}
-use Rattle.strength_reduction.specs.Steps.{Step, Constant, Compute, left_by, replaced, secrets_after}
-use Rattle.block_cache_gen.specs.Homes.{Setting, home_of, register_for, HasHomes}
-use Rattle.block_cache_gen.specs.Codes.{fixed_index, is_within_home, operand, operand_unless, steps_at}
-use Rattle.block_cache_gen.specs.PatternsOf.{word_read, tree_by, scalar_tree, operand_tree, placed_tree, number_tree, block_tree, plain_loaded, encrypted_loaded, block_loaded, element_by, index_by, steps_tree, operation_tree, tree_of_expr}
+use Rattle.lt_isa.specs.Prelude.{Parts, is_ram, is_eram}
+use Rattle.symbolic_values.specs.Prelude.{Value, Const, Reg}
+use Rattle.src_tree.specs.Prelude.{context_of, higher, label_or_public, label_at, label_of, Tree, Number, Variable, Element, Operation, Flows, TypedTree}
+use Rattle.trace_patterns.specs.Prelude.{OramSlot, applied_trees}
+use Rattle.held_registers.specs.Prelude.{public_zero}
+use Rattle.strength_reduction.specs.Prelude.{Step, Constant, Compute, left_by, replaced, secrets_after}
+use Rattle.block_cache_gen.specs.Prelude.{Setting, home_of, register_for, HasHomes, fixed_index, is_within_home, operand, operand_unless, steps_at, word_read, tree_by, scalar_tree, operand_tree, placed_tree, number_tree, block_tree, plain_loaded, encrypted_loaded, block_loaded, element_by, index_by, steps_tree, operation_tree, tree_of_expr}
 use Rattle.block_cache_gen.proofs.ArmStates.{hidden_read}
 use Rattle.block_cache_gen.proofs.HeldLabels.{register-label}
 use Rattle.block_cache_gen.proofs.HeldOperands.{IsOperandOf}

@@ -2,21 +2,12 @@
 use Rattle.std.proofs.Common.{◌≡◌, ℕ, ◌+◌, ◌≤◌, false, List}
 use Rattle.gr_word.specs.declared.variables.Label.TheVariants.{Secret}
 use Rattle.lt_isa.specs.declared.instructions.Instr.{Instr}
-use Rattle.lt_isa.specs.Object.{Parts}
-use Rattle.src_tree.specs.Contexts.{context_of}
-use Rattle.src_tree.specs.Heights.{height_of}
-use Rattle.src_tree.specs.Limits.{LowStatement}
-use Rattle.src_tree.specs.Trees.{Tree, Test, Statement}
-use Rattle.src_tree.specs.Typing.{TypedTree, TypedTest, TypedStatement}
-use Rattle.stretches.specs.Shows.{Show, pattern_of}
-use Rattle.trace_patterns.specs.SymStates.{SymState}
-use Rattle.stretches.specs.InArms.{StandsInArm}
+use Rattle.lt_isa.specs.Prelude.{Parts}
+use Rattle.src_tree.specs.Prelude.{context_of, height_of, LowStatement, Tree, Test, Statement, TypedTree, TypedTest, TypedStatement}
+use Rattle.stretches.specs.Prelude.{Show, pattern_of, StandsInArm}
+use Rattle.trace_patterns.specs.Prelude.{SymState}
 use Rattle.block_cache_gen.specs.declared.frames.Mode.{Mode}
-use Rattle.block_cache_gen.specs.Homes.{Setting}
-use Rattle.block_cache_gen.specs.Codes.{may_skip_loads, expr_code, guard_code, set_code}
-use Rattle.block_cache_gen.specs.PublicIndexes.{HasPublicIndexes, TestHasPublicIndexes, SetHasPublicIndexes}
-use Rattle.block_cache_gen.specs.PatternsOf.{Loads, tree_of_expr, shows_of_expr, slots_of_expr, shows_of_test, slots_of_test, shows_of_set, slots_of_set}
-use Rattle.block_cache_gen.specs.SecretCode.{ArmWalk, IsWalkedAsExpr, IsWalkedAsTest, IsWalkedAsSet}
+use Rattle.block_cache_gen.specs.Prelude.{Setting, may_skip_loads, expr_code, guard_code, set_code, HasPublicIndexes, TestHasPublicIndexes, SetHasPublicIndexes, Loads, tree_of_expr, shows_of_expr, slots_of_expr, shows_of_test, slots_of_test, shows_of_set, slots_of_set, ArmWalk, IsWalkedAsExpr, IsWalkedAsTest, IsWalkedAsSet}
 use Rattle.block_cache_gen.proofs.PublicTrees.{public-tree}
 use Rattle.block_cache_gen.proofs.ArmExpressions.{expr-leaves, guard-leaves}
 use Rattle.block_cache_gen.proofs.ArmAssignments.{Goes, goes-leaves, set-goes}

@@ -5,10 +5,7 @@ use Rattle.std.specs.List.{list_any, position_or_len}
 use Rattle.std.specs.Option.{option_map}
 use Rattle.std.proofs.lemmas.Bool.{ltb-true, ltb-false, false≢true}
 use Rattle.bank_alloc.specs.declared.places.Place.{Place}
-use Rattle.block_cache_gen.specs.Homes.{Home, Pin, Setting, no_home, pin_at}
-use Rattle.block_cache_gen.specs.Notes.{is_used}
-use Rattle.block_cache_gen.specs.ServedBlocks.{block_served, first_blocks, pin_in, pin_or}
-use Rattle.block_cache_gen.specs.Settings.{home_at, homes_at}
+use Rattle.block_cache_gen.specs.Prelude.{Home, Pin, Setting, no_home, pin_at, is_used, block_served, first_blocks, pin_in, pin_or, home_at, homes_at}
 use Rattle.block_cache_gen.proofs.HomeFacts.{bank_served}
 
 -- the place where a search of slots ends

@@ -3,30 +3,25 @@ use Rattle.std.proofs.Common.{◌≡◌, ◌↔◌, ℕ, zero, suc, ◌+◌, ◌
 use Rattle.std.specs.Prelude.{is_some}
 use Rattle.std.proofs.lemmas.Bool.{cases_lt, false≢true}
 use Rattle.std.proofs.lemmas.List.{get_or-map, length-map}
-use Rattle.gr_base.specs.Lists.{Within}
+use Rattle.gr_base.specs.Prelude.{Within}
 use Rattle.gr_word.specs.declared.variables.Label.{Label}
 use Rattle.gr_word.specs.declared.variables.Label.TheVariants.{Public, Secret}
 use Rattle.gr_word.specs.declared.variables.Shape.{Shape}
 use Rattle.gr_word.specs.declared.variables.Shape.TheVariants.{Scalar, Array}
 use Rattle.lt_isa.specs.declared.profiles.BankSpec.{BankSpec}
 use Rattle.lt_isa.specs.declared.profiles.Profile.{Profile}
-use Rattle.lt_isa.specs.Object.{Parts, no_bank, block_words, blocks_of}
+use Rattle.lt_isa.specs.Prelude.{Parts, no_bank, block_words, blocks_of}
 use Rattle.src_tree.specs.declared.trees.Decl.{Decl}
-use Rattle.src_tree.specs.Trees.{Source, source_of}
-use Rattle.src_tree.specs.Contexts.{context_of, label_and_shape, shape_of}
-use Rattle.src_tree.specs.Limits.{IsWithinLimits, LengthFits, max_length, words_of_length}
-use Rattle.src_tree.specs.Meaning.{variable_number}
+use Rattle.src_tree.specs.Prelude.{Source, source_of, context_of, label_and_shape, shape_of, IsWithinLimits, LengthFits, max_length, words_of_length, variable_number}
 use Rattle.src_tree.proofs.VariableNumbers.{number-below, kind-of_number}
 use Rattle.bank_alloc.specs.declared.places.Place.{Place}
-use Rattle.bank_alloc.specs.Apart.{IsBankOf, scalar_bank}
-use Rattle.bank_alloc.specs.Layout.{IsLaidOut}
+use Rattle.bank_alloc.specs.Prelude.{IsBankOf, scalar_bank, IsLaidOut}
 use Rattle.bank_alloc.proofs.Apart.{length_at}
-use Rattle.scratch_alloc.specs.Plans.{Plan, IsSoundPlan, IsSoundByPin, IsSpread, pin_of_slot, no_decl, no_place}
-use Rattle.held_registers.specs.Held.{IsSoundHeld}
-use Rattle.block_cache_gen.specs.Homes.{Home, Pin, Setting, HasHomes, further_slots, IsScalarHome, IsInOneBlock, IsSpreadHome, IsResidentHome, IsArrayHome, pin_at, HomesApart, no_home}
+use Rattle.scratch_alloc.specs.Prelude.{Plan, IsSoundPlan, IsSoundByPin, IsSpread, pin_of_slot, no_decl, no_place}
+use Rattle.held_registers.specs.Prelude.{IsSoundHeld}
+use Rattle.block_cache_gen.specs.Prelude.{Home, Pin, Setting, HasHomes, further_slots, IsScalarHome, IsInOneBlock, IsSpreadHome, IsResidentHome, IsArrayHome, pin_at, HomesApart, no_home, home_at, homes_at, setting_of, plan_of, IsFrame}
 use Rattle.block_cache_gen.proofs.FurtherSlots.{further_blocks-is, single_place, unpinned_place}
 use Rattle.block_cache_gen.specs.declared.frames.Frame.{Frame}
-use Rattle.block_cache_gen.specs.Settings.{home_at, homes_at, setting_of, plan_of, IsFrame}
 
 -- a setting is made of a program and a plan, for an object, with registers that hold what is sound
 pub record IsSettingOf (p : Source) (plan : Plan) (o : Parts) (f : Setting) : Type 0 where

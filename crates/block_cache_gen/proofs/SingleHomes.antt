@@ -3,13 +3,11 @@ use Rattle.std.proofs.Common.{◌≡◌, ℕ, ◌<◌, ◌≤◌, Bool, List, []
 use Rattle.std.proofs.lemmas.Bool.{cases_lt}
 use Rattle.std.proofs.lemmas.List.{get_or_past}
 use Rattle.lt_isa.specs.declared.profiles.Profile.{Profile}
-use Rattle.src_tree.specs.Meaning.{variable_number}
-use Rattle.src_tree.specs.Trees.{Source, source_of}
+use Rattle.src_tree.specs.Prelude.{variable_number, Source, source_of}
 use Rattle.bank_alloc.proofs.Apart.{scalar_bank-lt}
-use Rattle.scratch_alloc.specs.Plans.{Plan, IsSoundPlan, IsSoundByPin, pin_of_slot, no_decl, no_place}
-use Rattle.block_cache_gen.specs.Homes.{Held, Home, Pin, Setting, further_slots, home_of, no_home}
+use Rattle.scratch_alloc.specs.Prelude.{Plan, IsSoundPlan, IsSoundByPin, pin_of_slot, no_decl, no_place}
+use Rattle.block_cache_gen.specs.Prelude.{Held, Home, Pin, Setting, further_slots, home_of, no_home, IsFrame, home_at, homes_at, plan_of, setting_for, setting_of}
 use Rattle.block_cache_gen.specs.declared.frames.Frame.{Frame}
-use Rattle.block_cache_gen.specs.Settings.{IsFrame, home_at, homes_at, plan_of, setting_for, setting_of}
 use Rattle.block_cache_gen.proofs.FurtherSlots.{unpinned_place}
 use Rattle.block_cache_gen.proofs.Settled.{get_or-homes_at, length-homes_at}
 

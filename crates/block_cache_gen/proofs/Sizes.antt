@@ -6,16 +6,11 @@ use Rattle.lt_isa.specs.declared.instructions.Instr.{Instr}
 use Rattle.lt_isa.specs.declared.instructions.Instr.TheVariants.{Li, Alu}
 use Rattle.gr_word.specs.declared.operations.Op.{Op}
 use Rattle.gr_word.specs.declared.operations.Op.TheVariants.{Add, Shr}
-use Rattle.src_tree.specs.Contexts.{Context, context_of}
-use Rattle.src_tree.specs.Labels.{label_of}
-use Rattle.src_tree.specs.Trees.{Tree, Number, Variable, Element, Operation, Test, Statement, SetVariable, SetElement, Choice, Loop}
-use Rattle.src_tree.specs.Limits.{tree_weight, test_weight, statement_weight}
+use Rattle.src_tree.specs.Prelude.{Context, context_of, label_of, Tree, Number, Variable, Element, Operation, Test, Statement, SetVariable, SetElement, Choice, Loop, tree_weight, test_weight, statement_weight}
 use Rattle.block_cache_gen.specs.declared.frames.Mode.{Mode}
-use Rattle.block_cache_gen.specs.Assignments.{IsAssignment}
-use Rattle.block_cache_gen.specs.Homes.{Home, Setting, home_of, register_for}
+use Rattle.block_cache_gen.specs.Prelude.{IsAssignment, Home, Setting, home_of, register_for, read_code, held_number, applied_code, reducing, reducer, numbering, numbered_code, numbered_register, shift_code, offset_code, placed_code, stored_code, located_code, load_code, skips, access_by, access_code, index_operand, indexed_code, fixed_index, operand, operand_part, operand_register, left_operand, operation_code, steps_at, expr_code, guard_code, set_code, scalar_code, write_code, straight, scalar_set, target}
 use Rattle.block_cache_gen.specs.declared.indexes.Numbering.{Numbering}
 use Rattle.block_cache_gen.specs.declared.indexes.Numbering.TheVariants.{Compared, Reduced, Within}
-use Rattle.block_cache_gen.specs.Codes.{read_code, held_number, applied_code, reducing, reducer, numbering, numbered_code, numbered_register, shift_code, offset_code, placed_code, stored_code, located_code, load_code, skips, access_by, access_code, index_operand, indexed_code, fixed_index, operand, operand_part, operand_register, left_operand, operation_code, steps_at, expr_code, guard_code, set_code, scalar_code, write_code, straight, scalar_set, target}
 use Rattle.block_cache_gen.proofs.HeldOperands.{operand-short}
 use Rattle.block_cache_gen.proofs.ElementCodes.{read-short, store_short, stored-short}
 use Rattle.block_cache_gen.proofs.StepsAt.{operation-short}

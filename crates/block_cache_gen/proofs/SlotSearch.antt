@@ -1,8 +1,7 @@
 -- The search for the slot of a block, slot by slot.
 use Rattle.std.proofs.Common.{◌≡◌, ℕ, suc, ◌+◌, ◌<◌, true, false, cond, List, length, drop, get_or, Option, None, sym, ap, ◌∙◌, add-one, drop-cons}
 use Rattle.std.proofs.Math.Seq.{drop-length}
-use Rattle.block_cache_gen.specs.Homes.{Pin}
-use Rattle.block_cache_gen.specs.Settings.{is_pin_to, slot_from}
+use Rattle.block_cache_gen.specs.Prelude.{Pin, is_pin_to, slot_from}
 
 -- from slot k on, if that slot has the block
 pub slot_here : (pins : List (Option Pin)) (k bank block : ℕ) → k < length pins

@@ -5,16 +5,12 @@ use Rattle.std.proofs.lemmas.List.{length-append}
 use Rattle.gr_word.specs.declared.operations.Op.{Op}
 use Rattle.lt_isa.specs.declared.instructions.Instr.{Instr}
 use Rattle.lt_isa.specs.declared.instructions.Instr.TheVariants.{Alu}
-use Rattle.strength_reduction.specs.Steps.{Step}
-use Rattle.src_tree.specs.Contexts.{context_of}
-use Rattle.src_tree.specs.Labels.{label_of, secret_label}
-use Rattle.src_tree.specs.Trees.{Tree, Number, Variable, Element, Operation, Test, Statement, SetVariable, SetElement, Choice, Loop}
+use Rattle.strength_reduction.specs.Prelude.{Step}
+use Rattle.src_tree.specs.Prelude.{context_of, label_of, secret_label, Tree, Number, Variable, Element, Operation, Test, Statement, SetVariable, SetElement, Choice, Loop}
 use Rattle.gr_word.specs.declared.variables.Label.{Label}
 use Rattle.block_cache_gen.specs.declared.frames.Mode.{Mode}
-use Rattle.block_cache_gen.specs.Assignments.{IsAssignment}
-use Rattle.block_cache_gen.specs.Homes.{Home, Setting, home_of, register_for}
+use Rattle.block_cache_gen.specs.Prelude.{IsAssignment, Home, Setting, home_of, register_for, may_skip_loads, is_masked, is_within_home, numbering_by, numbering, scalar_code, expr_code, fixed_index, guard_code, read_code, set_code, stored_code, write_code, indexed_code, operand, operand_part, operand_register, operand_unless, left_operand, operation_code, steps_at, straight, scalar_set, target}
 use Rattle.block_cache_gen.proofs.ElementCodes.{read-short, stored-short}
-use Rattle.block_cache_gen.specs.Codes.{may_skip_loads, is_masked, is_within_home, numbering_by, numbering, scalar_code, expr_code, fixed_index, guard_code, read_code, set_code, stored_code, write_code, indexed_code, operand, operand_part, operand_register, operand_unless, left_operand, operation_code, steps_at, straight, scalar_set, target}
 use Rattle.block_cache_gen.proofs.StraightCodes.{straight-length}
 
 scalar_code-some : (r : Option ℕ) (h : Home) (to : ℕ) → 1 ≤ length (scalar_code r h to)

@@ -4,28 +4,25 @@ use Rattle.std.specs.List.{slice_get}
 use Rattle.gr_word.specs.declared.variables.Label.{Label}
 use Rattle.gr_word.specs.declared.variables.Label.TheVariants.{Secret}
 use Rattle.gr_word.specs.declared.variables.Shape.{Shape}
-use Rattle.gr_word.specs.Words.{unsigned_of}
+use Rattle.gr_word.specs.Prelude.{unsigned_of}
 use Rattle.lt_isa.specs.declared.profiles.Profile.{Profile}
 use Rattle.lt_isa.specs.declared.instructions.Instr.TheVariants.{Ldw}
-use Rattle.lt_isa.specs.Object.{Parts, block_words}
-use Rattle.symbolic_values.specs.Trees.{Value}
-use Rattle.src_tree.specs.Contexts.{context_of}
-use Rattle.bank_alloc.specs.Apart.{scalar_bank}
-use Rattle.scratch_alloc.specs.Plans.{pin_to}
-use Rattle.trace_patterns.specs.SymStates.{SymSlot, AnySlot, SymState, tree_held, slot_held, slot_bank}
+use Rattle.lt_isa.specs.Prelude.{Parts, block_words}
+use Rattle.symbolic_values.specs.Prelude.{Value}
+use Rattle.src_tree.specs.Prelude.{context_of}
+use Rattle.bank_alloc.specs.Prelude.{scalar_bank}
+use Rattle.scratch_alloc.specs.Prelude.{pin_to}
+use Rattle.trace_patterns.specs.Prelude.{SymSlot, AnySlot, SymState, tree_held, slot_held, slot_bank}
 use Rattle.stretches.proofs.ArmCode.{Walked}
 use Rattle.lt_checker.proofs.Singles.{IsKnown}
-use Rattle.word_selection.specs.Selection as selection
-use Rattle.word_selection.specs.Selection.{selected_read}
+use Rattle.word_selection.specs.Prelude.{selected_read}
 use Rattle.word_selection.proofs.ReadLaws.{walks-read}
-use Rattle.block_cache_gen.specs.Homes.{further_slots, Pin, Setting, HasHomes, IsInOneBlock, IsSpreadHome, IsResidentHome, home_of, pin_at, slots_of_home, slot_of_word, words_a_block}
-use Rattle.block_cache_gen.specs.Codes.{read_by, fixed_word}
-use Rattle.block_cache_gen.specs.Carries.{CarriesInArm}
-use Rattle.block_cache_gen.specs.PatternsOf.{word_gap, word_read, pinned_slot, no_loads, read_shows_by}
+use Rattle.block_cache_gen.specs.Prelude.{further_slots, Pin, Setting, HasHomes, IsInOneBlock, IsSpreadHome, IsResidentHome, home_of, pin_at, slots_of_home, slot_of_word, words_a_block, read_by, fixed_word, CarriesInArm, word_gap, word_read, pinned_slot, no_loads, read_shows_by}
 use Rattle.block_cache_gen.proofs.HomeFacts.{block_words-is}
 use Rattle.block_cache_gen.proofs.WordSlots.{single-slot, word-pinned, slot-pinned}
 use Rattle.block_cache_gen.proofs.ArmInstructions.{sets-ldw}
 use Rattle.block_cache_gen.proofs.ArmStates.{LeavesTree, bound-of_bank, carries-same, encrypted_read, hidden_read, resident-read}
+use Rattle.word_selection.specs.Selection as selection
 
 module _ (o : Parts) (f : Setting) (homes : HasHomes o f) (x : List ℕ) (label : Label) (shape : Shape)
     (known : context_of f.decls x ≡ Some (label, shape)) (resident : (home_of f x).resident ≡ true) where

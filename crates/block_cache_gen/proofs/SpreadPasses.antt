@@ -7,20 +7,17 @@ use Rattle.gr_word.specs.declared.variables.Label.{Label}
 use Rattle.gr_word.specs.declared.variables.Shape.TheVariants.{Array}
 use Rattle.lt_isa.specs.declared.instructions.Instr.{Instr}
 use Rattle.lt_isa.specs.declared.instructions.Instr.TheVariants.{Ldw, Stw, Stb}
-use Rattle.lt_isa.specs.Object.{Parts, block_words, is_ram}
-use Rattle.src_tree.specs.Contexts.{context_of}
-use Rattle.scratch_alloc.specs.Plans.{pin_to}
-use Rattle.trace_patterns.specs.Known.{Known, is_secret, bank_known, set_secret}
+use Rattle.lt_isa.specs.Prelude.{Parts, block_words, is_ram}
+use Rattle.src_tree.specs.Prelude.{context_of}
+use Rattle.scratch_alloc.specs.Prelude.{pin_to}
+use Rattle.trace_patterns.specs.Prelude.{Known, is_secret, bank_known, set_secret}
 use Rattle.stretches.proofs.Passed.{GoesOn, NoMore, One, rules-ldw, rules-stw, rules-stb, secret-same}
 use Rattle.word_selection.specs.declared.effects.Effect.TheVariants.{Stores}
-use Rattle.word_selection.specs.Selection.{selected_read}
-use Rattle.word_selection.specs.SlotSteps.{IsOutside}
+use Rattle.word_selection.specs.Prelude.{selected_read, IsOutside}
 use Rattle.word_selection.proofs.ReadLaws.{passes-read}
 use Rattle.word_selection.proofs.WriteLaws.{passes-write}
 use Rattle.block_cache_gen.specs.declared.frames.Mode.TheVariants.{Public}
-use Rattle.block_cache_gen.specs.Homes.{further_slots, Pin, Setting, HasHomes, IsResidentHome, home_of, pin_at, slots_of_home, slot_of_word, words_a_block}
-use Rattle.block_cache_gen.specs.Codes.{fixed_word, read_by, read_code, stored_among, stored_by, stored_code}
-use Rattle.block_cache_gen.specs.Carries.{Carries}
+use Rattle.block_cache_gen.specs.Prelude.{further_slots, Pin, Setting, HasHomes, IsResidentHome, home_of, pin_at, slots_of_home, slot_of_word, words_a_block, fixed_word, read_by, read_code, stored_among, stored_by, stored_code, Carries}
 use Rattle.block_cache_gen.proofs.HomeFacts.{block_words-is}
 use Rattle.block_cache_gen.proofs.WordSlots.{word-pinned, slot-pinned, several}
 use Rattle.block_cache_gen.proofs.KeptRegisters.{SameBelow, same-itself, same-set}

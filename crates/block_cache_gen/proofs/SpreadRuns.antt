@@ -1,38 +1,28 @@
 -- Runs of the code that reads and writes words of resident variables, whether in one slot or in several.
 use Rattle.std.proofs.Common.{◌≡◌, ◌≢◌, ℕ, ◌+◌, ◌*◌, ◌/◌, ◌%◌, ◌<◌, ◌≤◌, true, ℤ, pos, List, [], ◌∷◌, length, get_or, set, Option, Some, None, inl, inr, refl, sym, ap, ◌∙◌, subst, arith, pow_pos}
 use Rattle.std.specs.List.{slice_get}
-use Rattle.gr_word.specs.Words.{IsWord}
+use Rattle.gr_word.specs.Prelude.{IsWord}
 use Rattle.gr_word.specs.declared.variables.Label.{Label}
 use Rattle.gr_word.specs.declared.variables.Shape.{Shape}
 use Rattle.lt_isa.specs.declared.instructions.Instr.TheVariants.{Ldw}
-use Rattle.lt_isa.specs.Object.{Parts, block_words}
-use Rattle.lt_isa.specs.Ranges.{IsInRange}
-use Rattle.lt_isa.specs.Machine.{Slot, Bound, State, register, slot, word_in, slot_words}
-use Rattle.lt_isa.specs.Shape.{IsShaped}
-use Rattle.stretches.specs.Standing.{StandsAt}
-use Rattle.stretches.specs.Coming.{RunsThrough, Sets}
+use Rattle.lt_isa.specs.Prelude.{Parts, block_words, IsInRange, Slot, Bound, State, register, slot, word_in, slot_words, IsShaped}
+use Rattle.stretches.specs.Prelude.{StandsAt, RunsThrough, Sets}
 use Rattle.stretches.proofs.RunningThrough.{runs-weaker}
-use Rattle.src_tree.specs.Contexts.{context_of}
-use Rattle.src_tree.specs.Meaning.{Store, variable_number, words_of_number, with_word}
-use Rattle.scratch_alloc.specs.Plans.{pin_to}
-use Rattle.word_selection.specs.SlotSteps as selection
-use Rattle.word_selection.specs.SlotSteps.{IsOutside}
+use Rattle.src_tree.specs.Prelude.{context_of, Store, variable_number, words_of_number, with_word}
+use Rattle.scratch_alloc.specs.Prelude.{pin_to}
+use Rattle.word_selection.specs.Prelude.{IsOutside, selected_read, selected_write, IsBound, ReadsWord, WritesWord}
 use Rattle.word_selection.specs.declared.effects.Effect.TheVariants.{Stores, Keeps}
-use Rattle.word_selection.specs.Selection.{selected_read, selected_write}
-use Rattle.word_selection.specs.Selected.{IsBound, ReadsWord, WritesWord}
 use Rattle.word_selection.proofs.ReadLaws.{runs-read}
 use Rattle.word_selection.proofs.WriteLaws.{runs-write, runs-write_back}
 use Rattle.block_cache_gen.specs.declared.frames.Mode.{Mode}
 use Rattle.block_cache_gen.specs.declared.frames.Mode.TheVariants.{Public, Real, Mirrored}
-use Rattle.block_cache_gen.specs.Homes.{Home, Setting, HasHomes, IsSpreadHome, home_of, slots_of_home, slot_of_word, words_a_block, register_for, further_slots}
-use Rattle.block_cache_gen.specs.Codes.{store_code, effect_of, stored_among, read_by, stored_by, fixed_word}
-use Rattle.block_cache_gen.specs.StandsFor.{StandsFor, FitsHomes, HoldsBlock}
-use Rattle.block_cache_gen.specs.Assignments.{Assigns, by_mode, words_written}
+use Rattle.block_cache_gen.specs.Prelude.{Home, Setting, HasHomes, IsSpreadHome, home_of, slots_of_home, slot_of_word, words_a_block, register_for, further_slots, store_code, effect_of, stored_among, read_by, stored_by, fixed_word, StandsFor, FitsHomes, HoldsBlock, Assigns, by_mode, words_written}
 use Rattle.block_cache_gen.proofs.HomeFacts.{block_words-is}
-use Rattle.block_cache_gen.proofs.ResidentRuns as of_resident
 use Rattle.block_cache_gen.proofs.ResidentWrites.{put-done, runs-put}
 use Rattle.block_cache_gen.proofs.Stands.{stands-like}
 use Rattle.block_cache_gen.proofs.WordSlots.{few-further, single-slot, slot-pinned, several}
+use Rattle.word_selection.specs.SlotSteps as selection
+use Rattle.block_cache_gen.proofs.ResidentRuns as of_resident
 
 -- what a run leaves that reads a word: register `to` has it, and all else is as before, but for scratch registers
 pub record Reads (to : ℕ) (word : ℤ) (s t : State) : Type 0 where

@@ -9,22 +9,18 @@ use Rattle.std.proofs.lemmas.List.Sums.{sum_by-append}
 use Rattle.gr_word.specs.declared.operations.Op.TheVariants.{Xor}
 use Rattle.lt_isa.specs.declared.instructions.Instr.{Instr}
 use Rattle.lt_isa.specs.declared.instructions.Instr.TheVariants.{Li, Alu, Ldw, Stw, Stb}
-use Rattle.held_registers.specs.Held.{public_zero}
+use Rattle.held_registers.specs.Prelude.{public_zero}
 use Rattle.word_selection.specs.declared.effects.Effect.{Effect}
 use Rattle.word_selection.specs.declared.effects.Effect.TheVariants.{Stores, Keeps}
-use Rattle.word_selection.specs.SlotSteps.{SlotStep, Constant, Compute, Combine, Read, Write, IsOutside, StepFits, instruction_of, code_of}
-use Rattle.word_selection.specs.Selection.{mask_register, mask_steps, difference_steps, written_from, choices_steps, first_steps, next_mask_steps, exchange_steps, exchanges_steps, read_steps, write_steps, selected_read, selected_write}
+use Rattle.word_selection.specs.Prelude.{SlotStep, Constant, Compute, Combine, Read, Write, IsOutside, StepFits, instruction_of, code_of, mask_register, mask_steps, difference_steps, written_from, choices_steps, first_steps, next_mask_steps, exchange_steps, exchanges_steps, read_steps, write_steps, selected_read, selected_write}
 use Rattle.word_selection.proofs.Registers.{numbered-to}
 use Rattle.word_selection.proofs.ReadLaws.{read-fits}
 use Rattle.word_selection.proofs.WriteLaws.{write-fits}
-use Rattle.strength_reduction.specs.Steps.{numbered}
+use Rattle.strength_reduction.specs.Prelude.{numbered}
 use Rattle.block_cache_gen.specs.declared.frames.Mode.{Mode}
 use Rattle.block_cache_gen.specs.declared.frames.Mode.TheVariants.{Public, Real, Mirrored}
-use Rattle.block_cache_gen.specs.Homes.{further_slots, Home, Setting, slots_of_home, slot_of_word, words_a_block}
-use Rattle.block_cache_gen.specs.Codes.{effect_of, fixed_word, read_by, read_code, store_code, stored_among, stored_by, stored_code}
-use Rattle.block_cache_gen.specs.StoredWords.{is_held_register, is_store, counts_as_store, is_write, stored_words, written_words, stores_by, stores_in}
+use Rattle.block_cache_gen.specs.Prelude.{further_slots, Home, Setting, slots_of_home, slot_of_word, words_a_block, effect_of, fixed_word, read_by, read_code, store_code, stored_among, stored_by, stored_code, is_held_register, is_store, counts_as_store, is_write, stored_words, written_words, stores_by, stores_in, Itself, Stored, Mirrors, Ends, Goes}
 use Rattle.block_cache_gen.specs.Twins as twins
-use Rattle.block_cache_gen.specs.Twins.{Itself, Stored, Mirrors, Ends, Goes}
 
 -- ---- what doesn't depend on whether accesses are made once
 
@@ -41,11 +37,9 @@ read-plain rd ro low = by (ro == 1) refl
 
 -- steps that read, by the number of a word in their first register
 abbrev ReadsByFirst : SlotStep → Type 0
-ReadsByFirst (Constant to value) = Unit {0}
-ReadsByFirst (Compute op to left right) = Unit {0}
-ReadsByFirst (Combine op to left outside) = Unit {0}
 ReadsByFirst (Read to slot at) = at ≡ 0
 ReadsByFirst (Write from slot at) = ⊥
+ReadsByFirst other = Unit {0}
 
 choices-read : (size i : ℕ) (slots : List ℕ) → AllByRecursion ReadsByFirst (choices_steps size i slots)
 choices-read size i [] = tt

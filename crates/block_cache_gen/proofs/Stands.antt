@@ -3,22 +3,18 @@
 use Rattle.std.proofs.Common.{◌≡◌, ◌≢◌, ℕ, ◌+◌, ◌/◌, ◌%◌, ◌<◌, ◌≤◌, true, false, ℤ, pos, List, length, get_or, Some, refl, sym, ap, ◌∙◌, subst, ⊎_elim, arith, pow_pos}
 use Rattle.std.proofs.lemmas.Bool.{cases_eq}
 use Rattle.std.proofs.lemmas.List.{get_or-set_same, get_or-set_other}
-use Rattle.gr_base.specs.Lists.{Within}
+use Rattle.gr_base.specs.Prelude.{Within}
 use Rattle.gr_word.specs.declared.variables.Label.{Label}
 use Rattle.gr_word.specs.declared.variables.Shape.{Shape}
 use Rattle.gr_word.specs.declared.variables.Shape.TheVariants.{Array}
-use Rattle.lt_isa.specs.Object.{Parts, block_words}
-use Rattle.lt_isa.specs.Machine.{Unbound, Bound, State, register, slot, block_at, word_in, set_slot, slot_words}
-use Rattle.lt_isa.specs.Outputs.{bank_word_numbered}
-use Rattle.src_tree.specs.Contexts.{context_of}
-use Rattle.src_tree.specs.Meaning.{Store, variable_number, words_of_number}
-use Rattle.scratch_alloc.specs.Plans.{pin_to}
+use Rattle.lt_isa.specs.Prelude.{Parts, block_words, Unbound, Bound, State, register, slot, block_at, word_in, set_slot, slot_words, bank_word_numbered}
+use Rattle.src_tree.specs.Prelude.{context_of, Store, variable_number, words_of_number}
+use Rattle.scratch_alloc.specs.Prelude.{pin_to}
 use Rattle.scratch_alloc.proofs.Serving.{serves-within}
-use Rattle.stretches.specs.Coming.{Sets}
-use Rattle.held_registers.specs.Held.{held_at, word_held}
+use Rattle.stretches.specs.Prelude.{Sets}
+use Rattle.held_registers.specs.Prelude.{held_at, word_held}
 use Rattle.held_registers.proofs.Found.{held-high}
-use Rattle.block_cache_gen.specs.Homes.{Held, Setting, HasHomes, Serves, home_of, slot_of_word, words_a_block, start_of_home}
-use Rattle.block_cache_gen.specs.StandsFor.{StandsFor, HoldsBlock, HoldsBank, IsBlockOf}
+use Rattle.block_cache_gen.specs.Prelude.{Held, Setting, HasHomes, Serves, home_of, slot_of_word, words_a_block, start_of_home, StandsFor, HoldsBlock, HoldsBank, IsBlockOf}
 use Rattle.block_cache_gen.proofs.HomeFacts.{block_words-is, serves-same, pinned-apart}
 use Rattle.block_cache_gen.proofs.WordSlots.{word-pinned}
 

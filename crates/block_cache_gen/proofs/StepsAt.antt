@@ -4,14 +4,11 @@ use Rattle.std.proofs.lemmas.List.{length-map}
 use Rattle.gr_word.specs.declared.operations.Op.{Op}
 use Rattle.lt_isa.specs.declared.instructions.Instr.{Instr}
 use Rattle.lt_isa.specs.declared.instructions.Instr.TheVariants.{Alu}
-use Rattle.strength_reduction.specs.Reduced.{steps_by_number}
-use Rattle.strength_reduction.specs.Steps.{Step, Constant, Compute, Replaces, code_of, instruction_of}
+use Rattle.strength_reduction.specs.Prelude.{steps_by_number, Step, Constant, Compute, Replaces, code_of, instruction_of}
 use Rattle.strength_reduction.proofs.Replacing.{steps-replace}
-use Rattle.src_tree.specs.Limits.{tree_weight}
-use Rattle.src_tree.specs.Trees.{Tree, Number, Variable, Element, Operation}
-use Rattle.block_cache_gen.specs.Homes.{Setting}
-use Rattle.block_cache_gen.specs.Codes.{is_product, may_step, steps_at, operation_code}
-use Rattle.block_cache_gen.specs.StoredWords.{stored_words}
+use Rattle.src_tree.specs.Prelude.{tree_weight, Tree, Number, Variable, Element, Operation}
+use Rattle.block_cache_gen.specs.Prelude.{Setting, may_step, steps_at, operation_code, stored_words}
+use Rattle.block_cache_gen.specs.Codes.{is_product}
 
 -- the right side is a number, and the steps do what the operation does
 pub record StepsOf (op : Op) (b : Tree) (steps : List Step) : Type 0 where
@@ -26,16 +23,12 @@ steps-of f op (Number z) steps e = by (f.reduces && is_product op) e
     by : (c : Bool) → cond c (steps_by_number op z) None ≡ Some steps → StepsOf op (Number z) steps
     by true found = record { number = z; is = refl; replaces = steps-replace op z steps found }
     by false found = absurd (let f : ◌≡◌ {A = Option (List Step)} None (Some steps) = found in cc)
-steps-of f op (Variable x) steps e = absurd (let f : ◌≡◌ {A = Option (List Step)} None (Some steps) = e in cc)
-steps-of f op (Element x i) steps e = absurd (let f : ◌≡◌ {A = Option (List Step)} None (Some steps) = e in cc)
-steps-of f op (Operation oq a b) steps e = absurd (let f : ◌≡◌ {A = Option (List Step)} None (Some steps) = e in cc)
+steps-of f op other steps e = absurd (let f : ◌≡◌ {A = Option (List Step)} None (Some steps) = e in cc)
 
 -- no steps replace an operation that they may not replace
 pub not-stepped : (f : Setting) (op : Op) (b : Tree) → may_step f op b ≡ false → steps_at f op b ≡ None
 not-stepped f op (Number z) e = ap (λ (c : Bool). cond c (steps_by_number op z) None) e
-not-stepped f op (Variable x) e = refl
-not-stepped f op (Element x i) e = refl
-not-stepped f op (Operation oq a b) e = refl
+not-stepped f op other e = refl
 
 -- how long the code is that follows the left side
 pub operation-short : (f : Setting) (op : Op) (to ra rb : ℕ) (b : Tree) (right : List Instr)

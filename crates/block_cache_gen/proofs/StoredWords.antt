@@ -2,8 +2,7 @@
 use Rattle.std.proofs.Common.{◌≡◌, Bool, true, false, List, [], ◌∷◌, refl, sym, ap, ◌∙◌, arith}
 use Rattle.std.proofs.lemmas.Bool.{true≢false}
 use Rattle.lt_isa.specs.declared.instructions.Instr.{Instr}
-use Rattle.block_cache_gen.specs.StoredWords.{is_write, written_words}
-use Rattle.block_cache_gen.specs.Twins.{IsInstead, Itself, Stored, Read, Dropped, Mirrors, Ends, Goes, DifferInLastWritten}
+use Rattle.block_cache_gen.specs.Prelude.{is_write, written_words, IsInstead, Itself, Stored, Read, Dropped, Mirrors, Ends, Goes, DifferInLastWritten}
 use Rattle.block_cache_gen.proofs.WrittenWords.{written-append, written-one}
 
 module _ (once : Bool) where

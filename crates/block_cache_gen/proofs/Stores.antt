@@ -3,14 +3,11 @@ use Rattle.std.proofs.Common.{◌≡◌, ◌≢◌, ℕ, ◌<◌, ℤ, pos, List
 use Rattle.std.proofs.lemmas.Bool.{cases_eq, cases_lt}
 use Rattle.std.proofs.lemmas.List.{get_or-set_same, get_or-set_other, length-set, set-get_or, set_past}
 use Rattle.std.proofs.lemmas.List.Elements.{All-set}
-use Rattle.gr_word.specs.Words.{IsWord}
-use Rattle.gr_word.specs.Fitting.{AreWords}
-use Rattle.src_tree.specs.Meaning.{Store, variable_number, words_of_number, with_word}
+use Rattle.gr_word.specs.Prelude.{IsWord, AreWords}
+use Rattle.src_tree.specs.Prelude.{Store, variable_number, words_of_number, with_word}
 use Rattle.block_cache_gen.specs.declared.frames.Mode.{Mode}
 use Rattle.block_cache_gen.specs.declared.frames.Mode.TheVariants.{Public, Real, Mirrored}
-use Rattle.block_cache_gen.specs.Homes.{Setting, home_of}
-use Rattle.block_cache_gen.specs.StandsFor.{FitsHomes}
-use Rattle.block_cache_gen.specs.Assignments.{by_mode}
+use Rattle.block_cache_gen.specs.Prelude.{Setting, home_of, FitsHomes, by_mode}
 
 -- the words of another variable, and those of the variable itself
 pub words-other : (store : Store) (k n j : ℕ) (word : ℤ)

@@ -6,15 +6,11 @@ use Rattle.std.proofs.lemmas.Bool.{and_parts, not-true}
 use Rattle.gr_word.specs.declared.operations.Op.{Op}
 use Rattle.lt_isa.specs.declared.instructions.Instr.{Instr}
 use Rattle.lt_isa.specs.declared.instructions.Instr.TheVariants.{Alu}
-use Rattle.src_tree.specs.Contexts.{context_of}
-use Rattle.src_tree.specs.Labels.{label_of}
-use Rattle.src_tree.specs.Trees.{Tree, Number, Variable, Element, Operation}
-use Rattle.strength_reduction.specs.Steps.{Step}
+use Rattle.src_tree.specs.Prelude.{context_of, label_of, Tree, Number, Variable, Element, Operation}
+use Rattle.strength_reduction.specs.Prelude.{Step}
 use Rattle.block_cache_gen.specs.declared.frames.Mode.{Mode}
 use Rattle.block_cache_gen.specs.declared.frames.Mode.TheVariants.{Public}
-use Rattle.block_cache_gen.specs.Homes.{Setting, register_for}
-use Rattle.block_cache_gen.specs.Codes.{operand, operand_part, operand_register, operand_unless, operation_code, steps_at, may_step, keeps_label, is_straight, straight_if, straight, straight_code, expr_code}
-use Rattle.block_cache_gen.specs.Notes.{operand_mask, operation_notes, base_mask, expr_notes, straight_notes}
+use Rattle.block_cache_gen.specs.Prelude.{Setting, register_for, operand, operand_part, operand_register, operand_unless, operation_code, steps_at, may_step, keeps_label, is_straight, straight_if, straight, straight_code, expr_code, operand_mask, operation_notes, base_mask, expr_notes, straight_notes}
 use Rattle.block_cache_gen.proofs.StepsAt.{not-stepped}
 
 -- what is known of such an operation
@@ -27,9 +23,6 @@ pub record IsStraight (f : Setting) (x : List ℕ) (r : ℕ) (op : Op) (a b : Tr
 -- what is true of each such operation is true of the value
 pub straight-by : (f : Setting) (x : List ℕ) (e : Tree) (r : ℕ) → straight f x e ≡ Some r → (P : Tree → Type 0)
     → ((op : Op) (a b : Tree) → IsStraight f x r op a b → P (Operation op a b)) → P e
-straight-by f x (Number z) r is P holds = absurd (let g : ◌≡◌ {A = Option ℕ} None (Some r) = is in cc)
-straight-by f x (Variable y) r is P holds = absurd (let g : ◌≡◌ {A = Option ℕ} None (Some r) = is in cc)
-straight-by f x (Element y i) r is P holds = absurd (let g : ◌≡◌ {A = Option ℕ} None (Some r) = is in cc)
 straight-by f x (Operation op a b) r is P holds = by (is_straight f x op a b) refl is
   where
     by : (c : Bool) → is_straight f x op a b ≡ c → straight_if c (register_for f x) ≡ Some r → P (Operation op a b)
@@ -45,6 +38,7 @@ straight-by f x (Operation op a b) r is P holds = by (is_straight f x op a b) re
           plain = not-stepped f op b (not-true (may_step f op b) rest.0);
           keeps = rest.1;
         })
+straight-by f x other r is P holds = absurd (let g : ◌≡◌ {A = Option ℕ} None (Some r) = is in cc)
 
 -- the notes
 pub straight-notes : (f : Setting) (x : List ℕ) (e : Tree) (r : ℕ) → straight f x e ≡ Some r → (p : ℕ)

@@ -4,9 +4,9 @@ use Rattle.std.specs.List.{slice_get}
 use Rattle.std.proofs.Math.Nat.{div-eq_of_lt, div-lt_iff_lt-mul}
 use Rattle.std.proofs.lemmas.List.{get_or_default, length-take}
 use Rattle.gr_word.specs.declared.variables.Label.{Label}
-use Rattle.lt_isa.specs.Machine.{word_in}
-use Rattle.scratch_alloc.specs.Plans.{pin_to}
-use Rattle.block_cache_gen.specs.Homes.{Home, Setting, IsInOneBlock, IsSpreadHome, IsResidentHome, pin_at, slots_of_home, slot_of_word, words_a_block, further_slots}
+use Rattle.lt_isa.specs.Prelude.{word_in}
+use Rattle.scratch_alloc.specs.Prelude.{pin_to}
+use Rattle.block_cache_gen.specs.Prelude.{Home, Setting, IsInOneBlock, IsSpreadHome, IsResidentHome, pin_at, slots_of_home, slot_of_word, words_a_block, further_slots}
 
 -- all words of a variable in one block have one slot
 pub single-slot : (slot : ℕ) (more : List ℕ) (j : ℕ) → more ≡ [] → get_or (slot ∷ more) j slot ≡ slot

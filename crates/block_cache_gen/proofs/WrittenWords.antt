@@ -10,22 +10,15 @@ use Rattle.gr_word.specs.declared.operations.Cmp.TheVariants.{Lt}
 use Rattle.gr_word.specs.declared.variables.Label.{Label}
 use Rattle.lt_isa.specs.declared.instructions.Instr.{Instr}
 use Rattle.lt_isa.specs.declared.instructions.Instr.TheVariants.{Li, Alu, Ldw, Br}
-use Rattle.src_tree.specs.Contexts.{context_of}
-use Rattle.src_tree.specs.Heights.{height_of}
-use Rattle.src_tree.specs.Labels.{label_of}
-use Rattle.src_tree.specs.Limits.{LowStatement}
-use Rattle.src_tree.specs.Trees.{Tree, Number, Variable, Element, Operation, Statement, SetVariable, SetElement, Choice, Loop}
+use Rattle.src_tree.specs.Prelude.{context_of, height_of, label_of, LowStatement, Tree, Number, Variable, Element, Operation, Statement, SetVariable, SetElement, Choice, Loop}
 use Rattle.src_tree.proofs.TreeHeights.{height-some}
-use Rattle.strength_reduction.specs.Steps.{Step, Constant, Compute, StepFits, numbered, code_of}
+use Rattle.strength_reduction.specs.Prelude.{Step, Constant, Compute, StepFits, numbered, code_of}
 use Rattle.step_code.proofs.Registers.{numbered-to}
-use Rattle.held_registers.specs.Held.{public_zero, IsSoundHeld}
+use Rattle.held_registers.specs.Prelude.{public_zero, IsSoundHeld}
 use Rattle.block_cache_gen.specs.declared.frames.Mode.{Mode}
-use Rattle.block_cache_gen.specs.Assignments.{IsAssignment, by_mode}
-use Rattle.block_cache_gen.specs.Homes.{Home, Setting, home_of, register_for}
+use Rattle.block_cache_gen.specs.Prelude.{IsAssignment, by_mode, Home, Setting, home_of, register_for, read_code, zero_of, held_number, applied_code, reducing, reducer, fixed_index, scalar_code, numbering, least_word, numbered_code, numbered_register, shift_code, offset_code, placed_code, located_code, load_code, skips, access_by, access_code, operand, operand_part, operand_register, left_operand, index_operand, indexed_code, stored_code, operation_code, steps_at, expr_code, store_code, write_code, set_code, straight, scalar_set, straight_code, target, is_held_register, is_write, written_words, mode_writes, set_stores}
 use Rattle.block_cache_gen.specs.declared.indexes.Numbering.{Numbering}
 use Rattle.block_cache_gen.specs.declared.indexes.Numbering.TheVariants.{Compared, Reduced, Within}
-use Rattle.block_cache_gen.specs.Codes.{read_code, zero_of, held_number, applied_code, reducing, reducer, fixed_index, scalar_code, numbering, least_word, numbered_code, numbered_register, shift_code, offset_code, placed_code, located_code, load_code, skips, access_by, access_code, operand, operand_part, operand_register, left_operand, index_operand, indexed_code, stored_code, operation_code, steps_at, expr_code, store_code, write_code, set_code, straight, scalar_set, straight_code, target}
-use Rattle.block_cache_gen.specs.StoredWords.{is_held_register, is_write, written_words, mode_writes, set_stores}
 use Rattle.block_cache_gen.specs.declared.frames.Mode.TheVariants.{Public, Real, Mirrored}
 use Rattle.block_cache_gen.proofs.HeldLabels.{register-own}
 use Rattle.block_cache_gen.proofs.HeldOperands.{operand-outside}

@@ -56,7 +56,6 @@ write_by false seen = seen ∷ []
 
 -- the one write of an assignment to an element, and none of one to a scalar
 abbrev pub seen_of_write : Setting → Mode → Banks → Store → Statement → List Observed
-seen_of_write f mode banks store (SetVariable x e) = []
 seen_of_write f mode banks store (SetElement x i e) =
     let index = evaluated f.decls store i in
     let a = access_of f store x index in
@@ -64,8 +63,7 @@ seen_of_write f mode banks store (SetElement x i e) =
     (write_event a.home.bank a.block
     (words_written mode (block_in banks a.home.bank a.block) (word_number f store x index % words_a_block f)
     (evaluated f.decls store e)))
-seen_of_write f mode banks store (Choice t a b) = []
-seen_of_write f mode banks store (Loop t a) = []
+seen_of_write f mode banks store other = []
 
 -- what is seen of an assignment that finds the banks and the slots so
 abbrev pub seen_of_set : Setting → Mode → Banks → List Slot → Store → Statement → List Observed

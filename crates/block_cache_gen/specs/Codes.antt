@@ -20,14 +20,12 @@ use Rattle.block_cache_gen.specs.declared.frames.Mode.TheVariants.{Public, Real,
 use Rattle.block_cache_gen.specs.declared.indexes.Numbering.{Numbering}
 use Rattle.block_cache_gen.specs.declared.indexes.Numbering.TheVariants.{Compared, Reduced, Within}
 use Rattle.gr_word.specs.declared.variables.Label.{Label}
-use Rattle.gr_word.specs.declared.variables.Label.TheVariants as label
-use Rattle.src_tree.specs.Contexts.{context_of}
-use Rattle.src_tree.specs.Labels.{label_of}
 use Rattle.held_registers.specs.Held.{secret_zero, public_zero, register_of_number}
 use Rattle.word_selection.specs.declared.effects.Effect.{Effect}
 use Rattle.word_selection.specs.declared.effects.Effect.TheVariants.{Stores, Keeps}
 use Rattle.word_selection.specs.Selection.{selected_read, selected_write}
 use Rattle.block_cache_gen.specs.Homes.{Home, Setting, home_of, words_a_block, slots_of_home, slot_of_word, register_for, further_slots}
+use Rattle.gr_word.specs.declared.variables.Label.TheVariants as label
 
 -- Public code may skip the load of a block of plain or encrypted memory.
 abbrev pub may_skip_loads : Mode → Bool
@@ -242,31 +240,21 @@ read_code f h fixed to = read_by h.resident f h fixed to
 
 -- a product, a quotient or a remainder, which take more cycles than other operations
 abbrev pub is_product : Op → Bool
-is_product Add = false
-is_product Sub = false
 is_product Mul = true
 is_product Div = true
 is_product Rem = true
 is_product Remu = true
-is_product And = false
-is_product Or = false
-is_product Xor = false
-is_product Shl = false
-is_product Shr = false
+is_product other = false
 
 -- whether steps may replace an operation: one of these by the number on its right
 abbrev pub may_step : Setting → Op → Tree → Bool
 may_step f op (Number z) = f.reduces && is_product op
-may_step f op (Variable x) = false
-may_step f op (Element x i) = false
-may_step f op (Operation oq a b) = false
+may_step f op other = false
 
 -- the steps that replace it, if there are any
 abbrev pub steps_at : Setting → Op → Tree → Option (List Step)
 steps_at f op (Number z) = if f.reduces && is_product op then steps_by_number op z else None
-steps_at f op (Variable x) = None
-steps_at f op (Element x i) = None
-steps_at f op (Operation oq a b) = None
+steps_at f op other = None
 
 -- Steps begin with the left side in register `to`.
 abbrev pub left_operand : Setting → Op → Tree → Tree → Option ℕ
@@ -333,20 +321,16 @@ is_straight f x op a b =
     && keeps_label (label_of (context_of f.decls) (Variable x)) (label_of (context_of f.decls) (Operation op a b)))
 
 abbrev pub straight : Setting → List ℕ → Tree → Option ℕ
-straight f x (Number z) = None
-straight f x (Variable y) = None
-straight f x (Element y i) = None
 straight f x (Operation op a b) = straight_if (is_straight f x op a b) (register_for f x)
+straight f x other = None
 
 -- the code of such an operation, with the result in register r
 abbrev pub straight_code : Setting → Mode → (r : ℕ) → Tree → List Instr
-straight_code f mode r (Number z) = []
-straight_code f mode r (Variable y) = []
-straight_code f mode r (Element y i) = []
 straight_code f mode r (Operation op a b) =
     operand_part (operand f a) (expr_code f mode 0 a)
     ++ operation_code op r (operand_register (operand f a) 0) (operand_register (operand f b) 1) None
     (operand_part (operand f b) (expr_code f mode 1 b))
+straight_code f mode r other = []
 
 -- an assignment to a scalar: the value in register 0 or in the one that holds it, and then written, if not straight
 abbrev pub scalar_set : Option ℕ → Setting → Mode → List ℕ → Tree → List Instr

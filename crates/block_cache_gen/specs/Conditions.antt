@@ -2,11 +2,11 @@
 -- project's profile.)
 use Rattle.std.specs.Prelude.{◌≡◌}
 use Rattle.gr_word.specs.declared.variables.Label.{Label}
-use Rattle.gr_word.specs.declared.variables.Label.TheVariants as label
 use Rattle.src_tree.specs.Statements.{StandsIn}
 use Rattle.src_tree.specs.Trees.{Statement, Source}
 use Rattle.block_cache_gen.specs.declared.frames.Mode.{Mode}
 use Rattle.block_cache_gen.specs.declared.frames.Mode.TheVariants.{Public, Real, Mirrored}
+use Rattle.gr_word.specs.declared.variables.Label.TheVariants as label
 
 -- code of a secret choice is made only for statements of secret code
 abbrev pub IsForCode : Mode → Label → Type 0

@@ -9,10 +9,10 @@ use Rattle.src_tree.specs.Trees.{Tree, Test, Statement}
 use Rattle.block_cache_gen.specs.declared.frames.CodeBuf.{CodeBuf}
 use Rattle.block_cache_gen.specs.declared.frames.Mode.{Mode}
 use Rattle.block_cache_gen.specs.declared.frames.Mode.TheVariants.{Public, Real, Mirrored}
-pub use Rattle.block_cache_gen.specs.Behind.{CodeGrows}
 use Rattle.block_cache_gen.specs.Homes.{Home, Setting}
 use Rattle.block_cache_gen.specs.Codes.{operand, operand_part, operand_register, operation_code, steps_at, expr_code, guard_code, set_code, straight_code, index_operand, indexed_code, found_by, fixed_index, numbering}
 use Rattle.block_cache_gen.specs.Notes.{operation_notes, expr_notes, guard_notes, set_notes, straight_notes, index_notes, loaded_notes, load_notes}
+pub use Rattle.block_cache_gen.specs.Behind.{CodeGrows}
 
 -- code was appended, and notes that go by the place where that code begins
 pub record Appended (before after : CodeBuf) (more : List Instr) (noted : ℕ → List Note) : Type 0 where

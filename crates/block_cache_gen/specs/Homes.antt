@@ -14,8 +14,8 @@ use Rattle.src_tree.specs.Limits.{max_length}
 use Rattle.src_tree.specs.Meaning.{variable_number}
 use Rattle.bank_alloc.specs.Apart.{scalar_bank}
 use Rattle.held_registers.specs.Held.{held_at, label_held, register_of_scalar, IsSoundHeld}
-pub use Rattle.held_registers.specs.declared.registers.Held.{Held}
 use Rattle.scalar_ranges.specs.Ranges.{Ranges}
+pub use Rattle.held_registers.specs.declared.registers.Held.{Held}
 pub use Rattle.scratch_alloc.specs.declared.plans.Pin.{Pin}
 pub use Rattle.scratch_alloc.specs.Plans.{pin_to, Serves, PlainSlot, EncryptedSlot, ObliviousSlot}
 

@@ -26,3 +26,4 @@ pub mod StoredWords
 pub mod Behind
 pub mod Twins
 pub mod InstructionsOf
+pub mod Prelude

@@ -15,12 +15,12 @@ use Rattle.src_tree.specs.declared.trees.Decl.{Decl}
 use Rattle.src_tree.specs.Contexts.{context_of}
 use Rattle.src_tree.specs.Labels.{label_of}
 use Rattle.src_tree.specs.Trees.{Tree, Number, Variable, Element, Operation, Test, Statement, SetVariable, SetElement, Choice, Loop}
-use Rattle.block_cache_gen.specs.declared.frames.Mode.TheVariants as mode
 use Rattle.block_cache_gen.specs.declared.indexes.Numbering.{Numbering}
 use Rattle.block_cache_gen.specs.declared.indexes.Numbering.TheVariants.{Compared, Reduced, Within}
 use Rattle.block_cache_gen.specs.Homes.{Home, Pin, Setting, pin_at, home_of, Held, label_by}
 use Rattle.block_cache_gen.specs.Codes.{is_cached, fixed_index, numbering, offset_code, shift_code, load_code, operand, operand_part, left_operand, index_operand, steps_at, straight, expr_code, indexed_code}
 use Rattle.strength_reduction.specs.Steps.{Step}
+use Rattle.block_cache_gen.specs.declared.frames.Mode.TheVariants as mode
 
 -- every register may hold a secret
 abbrev pub all_marked : ℕ
@@ -148,15 +148,13 @@ guard_notes f to place t =
 
 -- the notes of an operation whose last instruction leaves its result in the register of a scalar
 abbrev pub straight_notes : Setting → (place : ℕ) → Tree → List Note
-straight_notes f place (Number z) = []
-straight_notes f place (Variable y) = []
-straight_notes f place (Element y i) = []
 straight_notes f place (Operation op a b) =
     operand_part (operand f a) (expr_notes f (base_mask f) 0 place a)
     ++ operand_part (operand f b)
     (expr_notes f (operand_mask (operand f a) (label_of (context_of f.decls) a) (base_mask f) 0) 1
     (place + length (operand_part (operand f a) (expr_code f mode.Public 0 a)))
     b)
+straight_notes f place other = []
 
 abbrev pub scalar_set_notes : Option ℕ → Setting → (place : ℕ) → Tree → List Note
 scalar_set_notes None f place e = operand_part (operand f e) (expr_notes f (base_mask f) 0 place e)

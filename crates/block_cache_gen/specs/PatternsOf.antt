@@ -17,11 +17,11 @@ use Rattle.stretches.specs.Shows.{Show, Gap, Seen, pattern_of}
 use Rattle.trace_patterns.specs.SymStates.{Loaded, Entry, SymSlot, AnySlot, RamSlot, EramSlot, OramSlot}
 use Rattle.trace_patterns.specs.Single.{applied_trees, word_tree}
 use Rattle.held_registers.specs.Held.{public_zero}
-use Rattle.word_selection.specs.Selection as selection
 use Rattle.block_cache_gen.specs.Homes.{Home, Setting, held_label, home_of, register_for, words_a_block, blocks_set, slots_of_home, further_slots}
 use Rattle.block_cache_gen.specs.Carries.{held_tree}
 use Rattle.block_cache_gen.specs.Codes.{fixed_index, fixed_word, held_number, is_within_home, numbering_by, reducer, reducing, operand, operand_part, index_operand, left_operand, steps_at, straight}
 use Rattle.strength_reduction.specs.Steps.{Step, Constant, Compute, left_by}
+use Rattle.word_selection.specs.Selection as selection
 
 -- the cycles of an operation, and of a word that is read or written in a slot
 abbrev pub operation_gap : Setting → Op → Show

@@ -6,7 +6,6 @@ use Rattle.lt_isa.specs.declared.symbols.Note.{Note}
 use Rattle.lt_isa.specs.declared.instructions.Instr.{Instr}
 use Rattle.lt_isa.specs.Object.{Parts}
 use Rattle.src_tree.specs.Contexts.{context_of}
-use Rattle.src_tree.specs.Labels as label
 use Rattle.src_tree.specs.Labels.{label_of}
 use Rattle.src_tree.specs.Trees.{Tree, Test}
 use Rattle.trace_patterns.specs.Known.{Known, is_secret}
@@ -14,6 +13,7 @@ use Rattle.stretches.specs.Standing.{StandsAt}
 use Rattle.stretches.specs.Passing.{HoldsAt, NotesBetween, Passes}
 use Rattle.block_cache_gen.specs.Homes.{Setting, HasHomes}
 use Rattle.block_cache_gen.specs.Carries.{Carries}
+use Rattle.src_tree.specs.Labels as label
 
 -- Code is at a place of an object, with exactly these notes after its first instruction, and with an instruction after
 -- it.

@@ -1,8 +1,7 @@
 ghost use Rattle.std.specs.Prelude.{◌≡◌, ℕ, ◌+◌, ◌*◌, ◌/◌, ◌%◌, ◌^◌, ◌<◌, ◌≤◌, ◌&&◌, ◌==◌, [], ◌∷◌, ◌++◌, Some, None, not, false, pos, ◌+ℤ◌, OnOk, OnSome, length};
 ghost use Rattle.std.specs.List.{list_any, range_with_len};
-ghost use Rattle.gr_word.specs.Words.{unsigned_of};
-ghost use Rattle.src_tree.specs.Labels.{secret_label};
-ghost use Rattle.src_tree.specs.Trees.{expr_tree};
+ghost use Rattle.gr_word.specs.Prelude.{unsigned_of};
+ghost use Rattle.src_tree.specs.Prelude.{secret_label, expr_tree};
 ghost use Rattle.block_cache_gen.specs.Codes.{access_by, copy_code, compares, is_within_home, numbering, placed_code, has_offset, numbered_register, offset_code, shift_code, fixed_code, fixed_index, fixed_word, index_operand, is_cached, is_masked, is_power, may_skip_loads, literal, load_code, operand_register, scalar_code, skips};
 ghost use Rattle.block_cache_gen.specs.declared.indexes.Numbering.TheVariants.{Reduced};
 ghost use Rattle.block_cache_gen.specs.Indexed.{code_of_index, notes_of_index};

@@ -1,15 +1,13 @@
 ghost use Rattle.std.specs.Prelude.{◌==◌, ◌≡◌, ◌+◌, ◌≤◌, ◌&&◌, pos, true, is_some, bytes_eq, length};
 ghost use Rattle.gr_word.specs.declared.variables.Label.{Label};
-ghost use Rattle.lt_isa.specs.Object.{bank_kind};
-ghost use Rattle.src_tree.specs.Contexts.{context_of};
-ghost use Rattle.src_tree.specs.Trees.{block_of_all, statement_of, expr_tree};
-ghost use Rattle.src_tree.specs.Trees as trees;
-ghost use Rattle.src_tree.specs.Typing.{TypedBlock, TypedStatement, TypedTree};
-ghost use Rattle.symbolic_values.specs.Sameness.{same_op};
+ghost use Rattle.lt_isa.specs.Prelude.{bank_kind};
+ghost use Rattle.src_tree.specs.Prelude.{context_of, block_of_all, statement_of, expr_tree, TypedBlock, TypedStatement, TypedTree};
+ghost use Rattle.symbolic_values.specs.Prelude.{same_op};
 ghost use Rattle.block_cache_gen.specs.Alike.{held_alike, numbers_alike, are_plain, by_same_number, is_same_number, same_flag, straight_alike, numbered_alike, reduced_alike, both_products, in_one_bank, in_step, is_alike, is_pair, is_product, is_same, pair_count};
 ghost use Rattle.block_cache_gen.specs.Codes.{is_cached, is_masked, is_within_home, reducer};
 ghost use Rattle.block_cache_gen.specs.Variables.{home_in};
 ghost use Rattle.block_cache_gen.specs.Homes.{further_slots, home_of};
+ghost use Rattle.src_tree.specs.Trees as trees;
 
 use crate::accesses::{is_cached, is_masked, is_resident, is_within_home};
 use crate::emitter::Emitter;

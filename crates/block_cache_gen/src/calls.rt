@@ -1,12 +1,7 @@
 ghost use Rattle.std.specs.Prelude.{◌≡◌, ◌+◌, ◌*◌, ◌≤◌, OnOk, length};
 ghost use Rattle.gr_word.specs.declared.variables.Label.{Label};
-ghost use Rattle.src_tree.specs.Contexts.{context_of};
-ghost use Rattle.src_tree.specs.Heights.{height_of};
-ghost use Rattle.src_tree.specs.Limits.{statement_weight, test_weight, tree_weight};
-ghost use Rattle.src_tree.specs.Trees.{source_of, statement_of, test_of, expr_tree};
-ghost use Rattle.src_tree.specs.Typing.{TypedTest, TypedTree};
-ghost use Rattle.lt_isa.specs.Limits.{most_instructions};
-ghost use Rattle.block_cache_gen.specs.declared.frames.Mode.TheVariants as modes;
+ghost use Rattle.src_tree.specs.Prelude.{context_of, height_of, statement_weight, test_weight, tree_weight, source_of, statement_of, test_of, expr_tree, TypedTest, TypedTree};
+ghost use Rattle.lt_isa.specs.Prelude.{most_instructions};
 ghost use Rattle.block_cache_gen.specs.Assignments.{IsAssignment, IsEffect, assigned};
 ghost use Rattle.block_cache_gen.specs.Behind.{CodeGrows, code_behind, notes_behind};
 ghost use Rattle.block_cache_gen.specs.Conditions.{IsStatementFor};
@@ -20,6 +15,7 @@ ghost use Rattle.block_cache_gen.specs.Settings.{IsFrame, setting_of};
 ghost use Rattle.block_cache_gen.specs.StoredWords.{mode_writes, set_stores, stored_words, written_words};
 ghost use Rattle.block_cache_gen.specs.TreeWords.{HasWords, SetHasWords, TestHasWords};
 ghost use Rattle.block_cache_gen.specs.Twins.{HasTwin};
+ghost use Rattle.block_cache_gen.specs.declared.frames.Mode.TheVariants as modes;
 
 use crate::emitter::Emitter;
 use crate::expressions::put_expr;

@@ -1,6 +1,6 @@
 ghost use Rattle.std.specs.Prelude.{◌≡◌, ◌+◌, ◌<◌, ◌≤◌, ◌^◌, ◌∷◌, OnOk};
-ghost use Rattle.src_tree.specs.Trees.{expr_tree};
-ghost use Rattle.word_selection.specs.Selection.{selected_read, selected_write};
+ghost use Rattle.src_tree.specs.Prelude.{expr_tree};
+ghost use Rattle.word_selection.specs.Prelude.{selected_read, selected_write};
 ghost use Rattle.block_cache_gen.specs.Codes.{effect_of, fixed_index, fixed_word, read_code, store_code, stored_among, stored_code};
 ghost use Rattle.block_cache_gen.specs.Emitted.{Appended, CodeGrows, no_notes};
 ghost use Rattle.block_cache_gen.specs.Homes.{further_slots, slot_of_word, slots_of_home};

@@ -1,9 +1,7 @@
 ghost use Rattle.std.specs.Prelude.{◌≡◌, ◌≤◌, ◌^◌, true, is_some};
-ghost use Rattle.src_tree.specs.Contexts.{context_of};
-ghost use Rattle.src_tree.specs.Labels.{label_at, label_of};
-ghost use Rattle.src_tree.specs.Trees.{expr_tree};
-ghost use Rattle.held_registers.specs.Held.{register_of_number};
-ghost use Rattle.scalar_ranges.specs.Known.{is_within};
+ghost use Rattle.src_tree.specs.Prelude.{context_of, label_at, label_of, expr_tree};
+ghost use Rattle.held_registers.specs.Prelude.{register_of_number};
+ghost use Rattle.scalar_ranges.specs.Prelude.{is_within};
 ghost use Rattle.block_cache_gen.specs.Homes.{ranged};
 
 use crate::prepared::Prepared;

@@ -1,12 +1,8 @@
 ghost use Rattle.std.specs.Prelude.{◌≡◌, ◌+◌, ◌*◌, ◌≤◌, OnOk, OnSome, length, option_map, vec_items};
-ghost use Rattle.src_tree.specs.Contexts.{context_of};
-ghost use Rattle.src_tree.specs.Heights.{height_of};
-ghost use Rattle.src_tree.specs.Limits.{tree_weight};
-ghost use Rattle.src_tree.specs.Trees.{expr_tree};
-ghost use Rattle.src_tree.specs.Typing.{TypedTree};
-ghost use Rattle.lt_isa.specs.Limits.{most_instructions};
+ghost use Rattle.src_tree.specs.Prelude.{context_of, height_of, tree_weight, expr_tree, TypedTree};
+ghost use Rattle.lt_isa.specs.Prelude.{most_instructions};
 ghost use Rattle.block_cache_gen.specs.Emitted.{EmitsAccess, EmitsExpr, EmitsOperand, EmitsOperation, CodeGrows};
-ghost use Rattle.strength_reduction.specs.Steps.{code_of};
+ghost use Rattle.strength_reduction.specs.Prelude.{code_of};
 ghost use Rattle.block_cache_gen.specs.Codes.{steps_at};
 ghost use Rattle.block_cache_gen.specs.TreeWords.{HasWords};
 ghost use Rattle.block_cache_gen.specs.Variables.{home_in};

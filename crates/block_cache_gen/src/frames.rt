@@ -1,5 +1,5 @@
 ghost use Rattle.std.specs.Prelude.{◌≡◌, ◌-◌, ◌^◌, ◌<◌, ◌≤◌, pos, [], ◌∷◌, ◌++◌, OnErr, OnOk, length, slice_set};
-ghost use Rattle.lt_isa.specs.Limits.{most_instructions};
+ghost use Rattle.lt_isa.specs.Prelude.{most_instructions};
 ghost use Rattle.lt_isa.specs.declared.instructions.Instr.TheVariants.{Br, Jmp};
 ghost use Rattle.block_cache_gen.specs.Behind.{IsAsBefore};
 ghost use Rattle.block_cache_gen.specs.Emitted.{Appended, CodeGrows, no_notes};

@@ -1,11 +1,9 @@
 ghost use Rattle.std.specs.Prelude.{◌≡◌, Bool, List};
 ghost use Rattle.gr_word.specs.declared.variables.Label.TheVariants.{Secret};
-ghost use Rattle.lt_isa.specs.Object.{Parts};
+ghost use Rattle.lt_isa.specs.Prelude.{Parts};
 ghost use Rattle.lt_isa.specs.declared.instructions.Instr.{Instr};
-ghost use Rattle.src_tree.specs.Contexts.{context_of};
-ghost use Rattle.src_tree.specs.Trees.{Block, Statement, Tree, source_of};
-ghost use Rattle.src_tree.specs.Typing.{TypedStatement, TypedTree};
-ghost use Rattle.bank_alloc.specs.Layout.{IsLaidOut};
+ghost use Rattle.src_tree.specs.Prelude.{context_of, Block, Statement, Tree, source_of, TypedStatement, TypedTree};
+ghost use Rattle.bank_alloc.specs.Prelude.{IsLaidOut};
 ghost use Rattle.block_cache_gen.specs.declared.frames.Frame.{Frame};
 ghost use Rattle.block_cache_gen.specs.Alike.{Alike, IsPairCount, Pair, pair_count};
 ghost use Rattle.block_cache_gen.specs.Homes.{HasHomes, Setting};

@@ -1,8 +1,6 @@
 ghost use Rattle.std.specs.Prelude.{◌≡◌, ◌<◌, ◌+◌, true, IfSome, OnSome, is_some, option_map, vec_items};
-ghost use Rattle.src_tree.specs.Contexts.{context_of};
-ghost use Rattle.src_tree.specs.Trees.{expr_tree, Operation};
-ghost use Rattle.src_tree.specs.Typing.{TypedTree};
-ghost use Rattle.strength_reduction.specs.Steps.{code_of};
+ghost use Rattle.src_tree.specs.Prelude.{context_of, expr_tree, Operation, TypedTree};
+ghost use Rattle.strength_reduction.specs.Prelude.{code_of};
 ghost use Rattle.block_cache_gen.specs.declared.operands.StraightOperation.{StraightOperation};
 ghost use Rattle.block_cache_gen.specs.Codes.{is_in_place, numbering, index_operand, left_operand, operand, operand_register, steps_at, is_straight, keeps_label, straight};
 ghost use Rattle.block_cache_gen.specs.Notes.{operand_mask};

@@ -1,8 +1,7 @@
 ghost use Rattle.std.specs.Prelude.{◌≡◌, ℕ, ◌≤◌, ◌^◌, ◌==◌, true, List, Option, IfOk, find, is_some, length, position};
 ghost use Rattle.std.specs.Option.{option_map};
-ghost use Rattle.src_tree.specs.Contexts.{context_of};
-ghost use Rattle.src_tree.specs.Labels.{label_at};
-ghost use Rattle.held_registers.specs.Held.{held_at, register_of_number};
+ghost use Rattle.src_tree.specs.Prelude.{context_of, label_at};
+ghost use Rattle.held_registers.specs.Prelude.{held_at, register_of_number};
 ghost use Rattle.block_cache_gen.specs.Homes.{Pin, label_by};
 ghost use Rattle.block_cache_gen.specs.Notes.{is_public, mask_to};
 ghost use Rattle.block_cache_gen.specs.Settings.{IsFrame, homes_at, setting_of};

@@ -1,11 +1,7 @@
 ghost use Rattle.std.specs.Prelude.{◌≡◌, ◌+◌, ◌*◌, ◌≤◌, OnOk, length};
 ghost use Rattle.gr_word.specs.declared.variables.Label.{Label};
-ghost use Rattle.src_tree.specs.Contexts.{context_of};
-ghost use Rattle.src_tree.specs.Heights.{height_of};
-ghost use Rattle.src_tree.specs.Limits.{LowStatement, statement_weight, test_weight, tree_weight};
-ghost use Rattle.src_tree.specs.Trees.{statement_of, test_of, expr_tree, Operation, SetVariable, SetElement};
-ghost use Rattle.src_tree.specs.Typing.{TypedStatement, TypedTest, TypedTree};
-ghost use Rattle.lt_isa.specs.Limits.{most_instructions};
+ghost use Rattle.src_tree.specs.Prelude.{context_of, height_of, LowStatement, statement_weight, test_weight, tree_weight, statement_of, test_of, expr_tree, Operation, SetVariable, SetElement, TypedStatement, TypedTest, TypedTree};
+ghost use Rattle.lt_isa.specs.Prelude.{most_instructions};
 ghost use Rattle.block_cache_gen.specs.Assignments.{IsAssignment};
 ghost use Rattle.block_cache_gen.specs.Codes.{store_code, stored_code, target, write_code};
 ghost use Rattle.block_cache_gen.specs.Emitted.{Appended, EmitsGuard, EmitsSet, EmitsStraight, CodeGrows, no_notes};

@@ -1,6 +1,6 @@
 ghost use Rattle.std.specs.Prelude.{◌≡◌, ◌+◌, ◌<◌, IfOk, OnSome, option_map, vec_items};
-ghost use Rattle.src_tree.specs.Trees.{expr_tree};
-ghost use Rattle.strength_reduction.specs.Steps.{code_of};
+ghost use Rattle.src_tree.specs.Prelude.{expr_tree};
+ghost use Rattle.strength_reduction.specs.Prelude.{code_of};
 ghost use Rattle.block_cache_gen.specs.Codes.{is_product, may_step, steps_at};
 ghost use Rattle.block_cache_gen.specs.TreeWords.{HasWords};
 

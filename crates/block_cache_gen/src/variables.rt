@@ -1,5 +1,5 @@
 ghost use Rattle.std.specs.Prelude.{◌≡◌, ◌≤◌, ℕ, List, Some, IfOk, OnOk, bytes_eq, if◌then◌else◌, length};
-ghost use Rattle.gr_base.specs.NameMaps.{found_under};
+ghost use Rattle.gr_base.specs.Prelude.{found_under};
 ghost use Rattle.block_cache_gen.specs.Settings.{four_slots, further_blocks, slot_from};
 ghost use Rattle.block_cache_gen.specs.Variables.{variable_of};
 

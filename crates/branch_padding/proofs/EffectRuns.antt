@@ -3,49 +3,29 @@
 use Rattle.std.proofs.Common.{◌≡◌, ℕ, zero, suc, ◌+◌, ◌-◌, Bool, true, false, pos, List, [], ◌∷◌, ◌++◌, length, take, drop, Option, Some, None, refl, sym, ap, ◌∙◌, subst, arith}
 use Rattle.std.specs.Prelude.{if◌then◌else◌}
 use Rattle.std.proofs.lemmas.List.{length-append}
-use Rattle.gr_word.specs.Words.{compared}
+use Rattle.gr_word.specs.Prelude.{compared}
 use Rattle.gr_word.specs.declared.operations.Cmp.{Cmp}
-use Rattle.gr_word.specs.declared.variables.Label.TheVariants as label
 use Rattle.lt_isa.specs.declared.instructions.Instr.{Instr}
 use Rattle.lt_isa.specs.declared.instructions.Instr.TheVariants.{Jmp, Br}
-use Rattle.lt_isa.specs.Object.{Parts}
-use Rattle.lt_isa.specs.Ranges.{IsInRange}
-use Rattle.lt_isa.specs.Machine.{State, Observed, register}
-use Rattle.lt_isa.specs.Shape.{IsShaped}
-use Rattle.lt_isa.specs.Costs.{greatest_cost}
-use Rattle.stretches.specs.Standing.{StandsAt, greatest_costs}
-use Rattle.stretches.specs.Coming.{Comes, RunsThrough}
+use Rattle.lt_isa.specs.Prelude.{Parts, IsInRange, State, Observed, register, IsShaped, greatest_cost}
+use Rattle.stretches.specs.Prelude.{StandsAt, greatest_costs, Comes, RunsThrough}
 use Rattle.stretches.proofs.Standing.{standing-first, standing-rest, standing-head, standing-tail, greatest_costs-append}
 use Rattle.stretches.proofs.Coming.{comes-both, comes-weaker, comes-jmp, comes-br_taken, comes-br_on}
 use Rattle.src_tree.specs.declared.trees.Decl.{Decl}
-use Rattle.src_tree.specs.Contexts.{context_of}
-use Rattle.src_tree.specs.Labels.{label_of_test}
-use Rattle.src_tree.specs.Limits.{LowStatement, LowBlock}
-use Rattle.src_tree.specs.Meaning.{Store, evaluated, guard_holds}
-use Rattle.src_tree.specs.Trees.{Test, Statement, SetVariable, SetElement, Choice, Loop, Block, Nothing, Then}
-use Rattle.src_tree.specs.Typing.{TypedTest, TypedStatement, TypedBlock}
+use Rattle.src_tree.specs.Prelude.{context_of, label_of_test, LowStatement, LowBlock, Store, evaluated, guard_holds, Test, Statement, SetVariable, SetElement, Choice, Loop, Block, Nothing, Then, TypedTest, TypedStatement, TypedBlock}
 use Rattle.src_tree.proofs.Loops.{left}
-use Rattle.scalar_ranges.specs.Ranges.{AreWithin, AreOfPublic}
+use Rattle.scalar_ranges.specs.Prelude.{AreWithin, AreOfPublic}
 use Rattle.scalar_ranges.proofs.SecretCode.{secret-within, secret-within_block}
 use Rattle.block_cache_gen.specs.declared.frames.Mode.{Mode}
 use Rattle.block_cache_gen.specs.declared.frames.Mode.TheVariants.{Public, Real, Mirrored}
-use Rattle.block_cache_gen.specs.Homes.{Setting, HasHomes}
-use Rattle.block_cache_gen.specs.Codes.{guard_code, set_code}
-use Rattle.block_cache_gen.specs.Alike.{pair_count}
-use Rattle.block_cache_gen.specs.StandsFor.{StandsFor, FitsHomes}
-use Rattle.block_cache_gen.specs.Accesses.{test_accesses, seen_of_all}
-use Rattle.block_cache_gen.specs.Assignments.{Assigns, assigned, by_mode, seen_of_set}
-use Rattle.block_cache_gen.specs.LeavesWord.{LeavesBoth}
-use Rattle.block_cache_gen.specs.RunsOf.{BeginsCode, Performs}
+use Rattle.block_cache_gen.specs.Prelude.{Setting, HasHomes, guard_code, set_code, pair_count, StandsFor, FitsHomes, test_accesses, seen_of_all, Assigns, assigned, by_mode, seen_of_set, LeavesBoth, BeginsCode, Performs}
 use Rattle.block_cache_gen.proofs.Stands.{stands-like}
 use Rattle.block_cache_gen.proofs.RunsOf.{guard-evaluates, assignment-performs}
-use Rattle.branch_padding.specs.Effects.{effect_of, effect_of_block}
-use Rattle.branch_padding.specs.Makes.{Makes}
-use Rattle.branch_padding.specs.Padded.{idle, arm_mode, in_a_row, untaken_arm, taken_arm, first_arm, second_arm, first_of, second_of, region_code, padded_code, padded_codes}
+use Rattle.branch_padding.specs.Prelude.{effect_of, effect_of_block, Makes, idle, arm_mode, in_a_row, untaken_arm, taken_arm, first_arm, second_arm, first_of, second_of, region_code, padded_code, padded_codes, slack_of}
 use Rattle.branch_padding.specs.declared.cycles.Slack.{Slack}
-use Rattle.branch_padding.specs.Cycles.{slack_of}
 use Rattle.branch_padding.proofs.EffectsMean.{secret-typed, effect-means, effect_of_block-means}
 use Rattle.branch_padding.proofs.Making.{KeepsWithin, each-keeps, begins-at, begun, makes-none, makes-same, makes-append, makes-idle, one_by_one, rest-behind, EachMakes, NoneMakes, OneMakes, row-makes, take-makes, drop-makes}
+use Rattle.gr_word.specs.declared.variables.Label.TheVariants as label
 
 -- what each statement of a block makes of a store, in code of a mode
 abbrev pub effects_of : List Decl → Mode → Block → List (Store → Store)

@@ -5,13 +5,9 @@ use Rattle.std.specs.Option.{option_and_then}
 use Rattle.gr_word.specs.declared.variables.Label.TheVariants.{Public, Secret}
 use Rattle.src_tree.specs.declared.trees.Decl.{Decl}
 use Rattle.gr_word.specs.declared.variables.Label.{Label}
-use Rattle.src_tree.specs.Contexts.{Context, context_of}
-use Rattle.src_tree.specs.Labels.{inside, label_of_test}
-use Rattle.src_tree.specs.Meaning.{Store, Left, guard_holds, run_of, run_of_block}
-use Rattle.src_tree.specs.Trees.{Test, Statement, SetVariable, SetElement, Choice, Loop, Block, Nothing, Then}
-use Rattle.src_tree.specs.Typing.{TypedStatement, TypedBlock}
+use Rattle.src_tree.specs.Prelude.{Context, context_of, inside, label_of_test, Store, Left, guard_holds, run_of, run_of_block, Test, Statement, SetVariable, SetElement, Choice, Loop, Block, Nothing, Then, TypedStatement, TypedBlock}
 use Rattle.src_tree.proofs.Loops.{left}
-use Rattle.branch_padding.specs.Effects.{effect_of, effect_of_block}
+use Rattle.branch_padding.specs.Prelude.{effect_of, effect_of_block}
 
 either-means : (h : Bool) (one two : Option Left) (x y : Store) (turns : ℕ) → one ≡ Some (left x turns)
     → two ≡ Some (left y turns)

@@ -4,29 +4,19 @@ use Rattle.std.proofs.lemmas.List.{take_more, take_all, take-append-drop, length
 use Rattle.std.proofs.Math.Seq.{set-append_seam}
 use Rattle.gr_word.specs.declared.operations.Cmp.{Cmp}
 use Rattle.gr_word.specs.declared.variables.Label.{Label}
-use Rattle.gr_word.specs.declared.variables.Label.TheVariants as label
 use Rattle.lt_isa.specs.declared.instructions.Instr.{Instr}
 use Rattle.lt_isa.specs.declared.instructions.Instr.TheVariants.{Nop, Jmp, Br}
 use Rattle.src_tree.specs.declared.trees.Stmt.{Stmt}
-use Rattle.src_tree.specs.Contexts.{Context, context_of}
-use Rattle.src_tree.specs.Labels.{label_of_test}
-use Rattle.src_tree.specs.Limits.{LowStatement, LowBlock, statement_weight, block_weight, test_weight, parts_weight}
-use Rattle.src_tree.specs.Trees.{Test, Block, Choice, statement_of, block_of_all}
-use Rattle.src_tree.specs.Typing.{TypedStatement, TypedBlock}
+use Rattle.src_tree.specs.Prelude.{Context, context_of, label_of_test, LowStatement, LowBlock, statement_weight, block_weight, test_weight, parts_weight, Test, Block, Choice, statement_of, block_of_all, TypedStatement, TypedBlock}
 use Rattle.block_cache_gen.specs.declared.frames.CodeBuf.{CodeBuf}
 use Rattle.block_cache_gen.specs.declared.frames.Mode.{Mode}
-use Rattle.block_cache_gen.specs.declared.frames.Mode.TheVariants as modes
-use Rattle.block_cache_gen.specs.Homes.{Setting}
-use Rattle.block_cache_gen.specs.Codes.{guard_code}
-use Rattle.block_cache_gen.specs.Notes.{guard_notes}
-use Rattle.block_cache_gen.specs.Alike.{is_pair, pair_count}
-use Rattle.block_cache_gen.specs.Emitted.{Appended, EmitsGuard, no_notes, notes_in}
+use Rattle.block_cache_gen.specs.Prelude.{Setting, guard_code, guard_notes, is_pair, pair_count, Appended, EmitsGuard, no_notes, notes_in}
 use Rattle.block_cache_gen.proofs.Emitting.{appended_as, appended_length, silent_behind}
 use Rattle.branch_padding.specs.declared.cycles.Slack.{Slack}
-use Rattle.branch_padding.specs.Cycles.{slack_of}
-use Rattle.branch_padding.specs.Padded.{idle, in_a_row, arm_mode, untaken_arm, taken_arm, first_padded, second_padded, first_arm, second_arm, region_code, padded_code, padded_codes, first_of, second_of}
-use Rattle.branch_padding.specs.Rows.{row_between}
+use Rattle.branch_padding.specs.Prelude.{slack_of, idle, in_a_row, arm_mode, untaken_arm, taken_arm, first_padded, second_padded, first_arm, second_arm, region_code, padded_code, padded_codes, first_of, second_of, row_between}
 use Rattle.branch_padding.proofs.Lengths.{row-append, statement-short, row-short}
+use Rattle.gr_word.specs.declared.variables.Label.TheVariants as label
+use Rattle.block_cache_gen.specs.declared.frames.Mode.TheVariants as modes
 
 -- an arm in an arm, and an arm's code has no notes
 pub arm-arm : (mode : Mode) → arm_mode (arm_mode mode) ≡ arm_mode mode

@@ -3,39 +3,20 @@ use Rattle.std.proofs.Common.{◌≡◌, ℕ, ◌+◌, ◌*◌, ◌≤◌, pos, 
 use Rattle.std.specs.List.{All}
 use Rattle.std.proofs.lemmas.List.Elements.{All-append, All-cons, All-contains, All-nil}
 use Rattle.gr_word.specs.declared.variables.Label.{Label}
-use Rattle.gr_word.specs.declared.variables.Label.TheVariants as label
 use Rattle.lt_isa.specs.declared.instructions.Instr.{Instr}
 use Rattle.lt_isa.specs.declared.instructions.Instr.TheVariants.{Jmp}
 use Rattle.lt_isa.specs.declared.symbols.Note.{Note}
-use Rattle.lt_isa.specs.Limits.{most_instructions}
-use Rattle.src_tree.specs.Contexts.{Context, context_of}
-use Rattle.src_tree.specs.Labels.{inside}
-use Rattle.src_tree.specs.Limits.{IsWithinLimits, LowStatement, max_weight, parts_weight, statement_weight, block_weight, test_weight}
-use Rattle.src_tree.specs.Statements.{with_parts, in_order}
-use Rattle.src_tree.specs.Trees.{Test, Statement, SetVariable, SetElement, Choice, Loop, Block, Nothing, Then, Source, source_of}
-use Rattle.src_tree.specs.Typing.{TypedStatement}
+use Rattle.lt_isa.specs.Prelude.{most_instructions}
+use Rattle.src_tree.specs.Prelude.{Context, context_of, inside, IsWithinLimits, LowStatement, max_weight, parts_weight, statement_weight, block_weight, test_weight, with_parts, in_order, Test, Statement, SetVariable, SetElement, Choice, Loop, Block, Nothing, Then, Source, source_of, TypedStatement, variable_number, StandsIn}
 use Rattle.src_tree.specs.declared.trees.Decl.{Decl}
-use Rattle.src_tree.specs.Meaning.{variable_number}
-use Rattle.scalar_ranges.specs.Known.{nothing_known}
-use Rattle.scalar_ranges.specs.Ranges.{AreOfPublic}
+use Rattle.scalar_ranges.specs.Prelude.{nothing_known, AreOfPublic}
 use Rattle.scalar_ranges.proofs.Coming.{none-at}
 use Rattle.scalar_ranges.proofs.Results.{no-range}
 use Rattle.block_cache_gen.specs.declared.frames.CodeBuf.{CodeBuf}
 use Rattle.block_cache_gen.specs.declared.frames.Frame.{Frame}
 use Rattle.block_cache_gen.specs.declared.frames.Mode.{Mode}
 use Rattle.block_cache_gen.specs.declared.frames.Mode.TheVariants.{Public, Real, Mirrored}
-use Rattle.block_cache_gen.specs.Assignments.{IsEffect, by_mode}
-use Rattle.block_cache_gen.specs.Behind.{code_behind, notes_behind}
-use Rattle.block_cache_gen.specs.Codes.{guard_code}
-use Rattle.src_tree.specs.Statements.{StandsIn}
-use Rattle.block_cache_gen.specs.Emitted.{notes_in}
-use Rattle.block_cache_gen.specs.Extends.{Extends}
-use Rattle.block_cache_gen.specs.Homes.{Setting}
-use Rattle.block_cache_gen.specs.Notes.{guard_notes}
-use Rattle.block_cache_gen.specs.PublicCode.{AtItsPlace}
-use Rattle.block_cache_gen.specs.ProgramWords.{StatementHasWords}
-use Rattle.block_cache_gen.specs.Settings.{IsFrame, setting_of}
-use Rattle.block_cache_gen.specs.StoredWords.{stored_words}
+use Rattle.block_cache_gen.specs.Prelude.{IsEffect, by_mode, code_behind, notes_behind, guard_code, notes_in, Extends, Setting, guard_notes, AtItsPlace, StatementHasWords, IsFrame, setting_of, stored_words}
 use Rattle.block_cache_gen.proofs.Extending.{extends}
 use Rattle.block_cache_gen.proofs.FrameClauses.{behind-holds, secret_mode}
 use Rattle.block_cache_gen.proofs.FrameIndexes.{frame_public}
@@ -43,14 +24,7 @@ use Rattle.block_cache_gen.proofs.HomesOfFrames.{homes_fit, frame_banks}
 use Rattle.src_tree.proofs.ProgramStatements.{statement_typed, statement_low}
 use Rattle.block_cache_gen.proofs.RangesOfNotes.{rise-wider, guard-rises, guard-count}
 use Rattle.block_cache_gen.proofs.RunsOf.{guard-evaluates}
-use Rattle.branch_padding.specs.Branches.{code_for, IsBranchFor, IsPassedAsBranch}
-use Rattle.branch_padding.specs.EmittedBranches.{IsChoice, EmitsChoice, EmitsBranch}
-use Rattle.branch_padding.specs.Effects.{effect_of}
-use Rattle.branch_padding.specs.Makes.{Makes}
-use Rattle.branch_padding.specs.Padded.{padded_code, region_code, first_of, second_of}
-use Rattle.branch_padding.specs.Regions.{IsRegionOf}
-use Rattle.branch_padding.specs.SecretChoices.{IsWalkedAsStatement}
-use Rattle.branch_padding.specs.Stores.{stores_of}
+use Rattle.branch_padding.specs.Prelude.{code_for, IsBranchFor, IsPassedAsBranch, IsChoice, EmitsChoice, EmitsBranch, effect_of, Makes, padded_code, region_code, first_of, second_of, IsRegionOf, IsWalkedAsStatement, stores_of}
 use Rattle.branch_padding.proofs.EffectRuns.{statement-makes}
 use Rattle.branch_padding.proofs.EffectsMean.{secret-typed, effect-means}
 use Rattle.branch_padding.proofs.Lengths.{statement-short}
@@ -61,6 +35,7 @@ use Rattle.branch_padding.proofs.PublicRegions.{branch_offset, PassedRegion, reg
 use Rattle.branch_padding.proofs.SecretStatementWalks.{statement-walked}
 use Rattle.block_cache_gen.proofs.SingleHomes.{ObliviousAreSingle, frame-single}
 use Rattle.branch_padding.proofs.StoredRows.{statement-stores, public_choice-stores}
+use Rattle.gr_word.specs.declared.variables.Label.TheVariants as label
 
 -- a statement of a program weighs no more than the program
 abbrev pub WeighsIn : Context → ℕ → Label × Statement → Type 0
@@ -173,11 +148,9 @@ module _ (f : Frame) (is : IsFrame f) (mode : Mode) (t : Test) (a b : Block)
 pub frame-branch_means : (f : Frame) → IsFrame f → (mode : Mode) (s : Statement)
     → IsBranchFor (source_of f.program.now) mode s
     → IsEffect f.program.now.decls.items s (effect_of f.program.now.decls.items s)
-frame-branch_means f is mode (SetVariable x e) branch = absurd branch.secret
-frame-branch_means f is mode (SetElement x i e) branch = absurd branch.secret
 frame-branch_means f is mode (Choice t a b) branch = λ store turns.
     effect-means f.program.now.decls.items (Choice t a b) (typed_secret f is mode t a b branch) store turns
-frame-branch_means f is mode (Loop t a) branch = absurd branch.secret
+frame-branch_means f is mode other branch = absurd branch.secret
 
 choice-promises : (f : Frame) (is : IsFrame f) (mode : Mode) (t : Test) (a b : Block)
     → IsBranchFor (source_of f.program.now) mode (Choice t a b) → (place : ℕ)
@@ -260,19 +233,15 @@ module _ (f : Frame) (is : IsFrame f) (e : Setting) (same : e ≡ setting_of f) 
 
   -- the statement is a choice
   pub call_choice : (s : Statement) → IsFor s → IsChoice s
-  call_choice (SetVariable x v) branch = branch.secret
-  call_choice (SetElement x i v) branch = branch.secret
   call_choice (Choice t a b) branch = tt
-  call_choice (Loop t a) branch = branch.secret
+  call_choice other branch = branch.secret
 
   -- it is typed and low as in secret code, and weighs as much
   pub call_typed : (s : Statement) → IsFor s → TypedStatement (context_of e.decls) label.Secret s
-  call_typed (SetVariable x v) branch = absurd branch.secret
-  call_typed (SetElement x i v) branch = absurd branch.secret
   call_typed (Choice t a b) branch =
       let P : Setting → Type 0 = λ u. TypedStatement (context_of u.decls) label.Secret (Choice t a b) in
       subst P (sym same) (typed_secret f is mode t a b branch)
-  call_typed (Loop t a) branch = absurd branch.secret
+  call_typed other branch = absurd branch.secret
 
   -- it is low
   pub call_low : (s : Statement) → IsFor s → LowStatement s
@@ -282,23 +251,19 @@ module _ (f : Frame) (is : IsFrame f) (e : Setting) (same : e ≡ setting_of f) 
   pub call_room : (s : Statement) → IsFor s → (size : ℕ)
       → size + 120 * statement_weight (context_of f.program.now.decls.items) (code_for mode) s ≤ most_instructions
       → size + 120 * statement_weight (context_of e.decls) label.Secret s ≤ most_instructions
-  call_room (SetVariable x v) branch size room = absurd branch.secret
-  call_room (SetElement x i v) branch size room = absurd branch.secret
   call_room (Choice t a b) branch size room =
       let P : Setting → Type 0 =
       λ u. size + 120 * statement_weight (context_of u.decls) label.Secret (Choice t a b) ≤ most_instructions in
       subst P (sym same) (subst (λ n. size + 120 * n ≤ most_instructions) (weighs f is mode t a b branch) room)
-  call_room (Loop t a) branch size room = absurd branch.secret
+  call_room other branch size room = absurd branch.secret
 
   -- what was appended does what the call promises
   pub call_promises : (s : Statement) → IsFor s → (c d : CodeBuf) → EmitsBranch e mode s c d
       → BranchPromises (setting_of f) mode s (length c.code.items) (code_behind c d) (notes_behind c d)
-  call_promises (SetVariable x v) branch c d emitted = absurd emitted
-  call_promises (SetElement x i v) branch c d emitted = absurd emitted
   call_promises (Choice t a b) branch c d emitted =
       let P : Setting → Type 0 = λ u. EmitsChoice u mode t a b c d in
       frame-branch_promises f is mode t a b branch c d (subst P same emitted)
-  call_promises (Loop t a) branch c d emitted = absurd emitted
+  call_promises other branch c d emitted = absurd emitted
 
   -- and it extends what was there
   pub call_extends : (s : Statement) → IsFor s → (c d : CodeBuf)
@@ -307,9 +272,7 @@ module _ (f : Frame) (is : IsFrame f) (e : Setting) (same : e ≡ setting_of f) 
       → EmitsBranch e mode s c d → StatementHasWords s
       → Extends (length f.places.now.blocks.items) mode
       (statement_weight (context_of f.program.now.decls.items) (code_for mode) s) c d
-  call_extends (SetVariable x v) branch c d room emitted words = absurd emitted
-  call_extends (SetElement x i v) branch c d room emitted words = absurd emitted
   call_extends (Choice t a b) branch c d room emitted words =
       let P : Setting → Type 0 = λ u. EmitsChoice u mode t a b c d in
       branch-extends f is mode t a b branch c d words room (subst P same emitted)
-  call_extends (Loop t a) branch c d room emitted words = absurd emitted
+  call_extends other branch c d room emitted words = absurd emitted

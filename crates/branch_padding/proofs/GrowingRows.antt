@@ -5,12 +5,11 @@ use Rattle.std.proofs.lemmas.List.{set-append_right, get_or_default}
 use Rattle.lt_isa.specs.declared.symbols.Note.{Note}
 use Rattle.lt_isa.specs.declared.instructions.Instr.{Instr}
 use Rattle.src_tree.specs.declared.trees.Stmt.{Stmt}
-use Rattle.src_tree.specs.Trees.{statement_of, block_of_all}
+use Rattle.src_tree.specs.Prelude.{statement_of, block_of_all}
 use Rattle.block_cache_gen.specs.declared.frames.CodeBuf.{CodeBuf}
-use Rattle.block_cache_gen.specs.Emitted.{Appended, CodeGrows}
-use Rattle.block_cache_gen.specs.ProgramWords.{StatementHasWords, BlockHasWords}
+use Rattle.block_cache_gen.specs.Prelude.{Appended, CodeGrows, StatementHasWords, BlockHasWords}
 use Rattle.block_cache_gen.proofs.Emitting.{grows_then}
-use Rattle.branch_padding.specs.Rows.{HaveWords}
+use Rattle.branch_padding.specs.Prelude.{HaveWords}
 
 -- what is appended to stays at the front
 pub appended-grows : (a b : CodeBuf) (more : List Instr) (noted : ℕ → List Note) → Appended a b more noted

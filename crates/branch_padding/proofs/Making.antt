@@ -3,22 +3,15 @@ use Rattle.std.proofs.Common.{◌≡◌, ℕ, zero, suc, ◌+◌, List, [], ◌�
 use Rattle.std.proofs.lemmas.List.{length-append}
 use Rattle.lt_isa.specs.declared.instructions.Instr.{Instr}
 use Rattle.lt_isa.specs.declared.instructions.Instr.TheVariants.{Nop}
-use Rattle.lt_isa.specs.Object.{Parts}
-use Rattle.lt_isa.specs.Machine.{State, Observed}
-use Rattle.lt_isa.specs.Shape.{IsShaped}
-use Rattle.lt_isa.specs.Step.{went_on}
-use Rattle.stretches.specs.Standing.{StandsAt, greatest_costs}
-use Rattle.stretches.specs.Coming.{RunsThrough}
+use Rattle.lt_isa.specs.Prelude.{Parts, State, Observed, IsShaped, went_on}
+use Rattle.stretches.specs.Prelude.{StandsAt, greatest_costs, RunsThrough}
 use Rattle.stretches.proofs.Standing.{standing-first, standing-rest, standing-head, greatest_costs-append}
 use Rattle.stretches.proofs.Coming.{comes-here, comes-step, comes-both, comes-weaker}
-use Rattle.src_tree.specs.Meaning.{Store}
-use Rattle.scalar_ranges.specs.Ranges.{AreWithin}
-use Rattle.block_cache_gen.specs.Homes.{Setting}
-use Rattle.block_cache_gen.specs.Assignments.{Assigns}
-use Rattle.block_cache_gen.specs.RunsOf.{BeginsCode}
+use Rattle.src_tree.specs.Prelude.{Store}
+use Rattle.scalar_ranges.specs.Prelude.{AreWithin}
+use Rattle.block_cache_gen.specs.Prelude.{Setting, Assigns, BeginsCode}
 use Rattle.block_cache_gen.proofs.Stands.{stands-like}
-use Rattle.branch_padding.specs.Makes.{Makes}
-use Rattle.branch_padding.specs.Padded.{idle, in_a_row}
+use Rattle.branch_padding.specs.Prelude.{Makes, idle, in_a_row}
 
 -- a change of a store keeps it within what is known
 abbrev pub KeepsWithin : Setting → (Store → Store) → Type 0

@@ -1,27 +1,16 @@
 -- The code of a branch in an arm is one region: after its guard it is crossed to the end of all of the code.
 use Rattle.std.proofs.Common.{◌≡◌, ℕ, ◌+◌, ◌≤◌, false, ◌++◌, length, subst, arith, length-append}
 use Rattle.gr_word.specs.declared.variables.Label.TheVariants.{Secret}
-use Rattle.lt_isa.specs.Object.{Parts}
-use Rattle.src_tree.specs.Contexts.{context_of}
-use Rattle.src_tree.specs.Limits.{LowStatement}
-use Rattle.src_tree.specs.Trees.{Test, Choice, Block}
-use Rattle.src_tree.specs.Typing.{TypedStatement}
-use Rattle.trace_patterns.specs.Shape.{most_regions}
-use Rattle.trace_patterns.specs.SymStates.{SymState, common}
-use Rattle.trace_patterns.specs.Walk.{CrossesTo}
-use Rattle.stretches.specs.InArms.{StandsInArm}
+use Rattle.lt_isa.specs.Prelude.{Parts}
+use Rattle.src_tree.specs.Prelude.{context_of, LowStatement, Test, Choice, Block, TypedStatement}
+use Rattle.trace_patterns.specs.Prelude.{most_regions, SymState, common, CrossesTo}
+use Rattle.stretches.specs.Prelude.{StandsInArm}
 use Rattle.stretches.proofs.ArmCode.{stands-first, stands-rest}
 use Rattle.block_cache_gen.specs.declared.frames.Mode.{Mode}
-use Rattle.block_cache_gen.specs.Carries.{CarriesInArm}
-use Rattle.block_cache_gen.specs.Codes.{may_skip_loads, guard_code}
-use Rattle.block_cache_gen.specs.Homes.{Setting, HasHomes}
-use Rattle.block_cache_gen.specs.PublicIndexes.{StatementHasPublicIndexes}
+use Rattle.block_cache_gen.specs.Prelude.{CarriesInArm, may_skip_loads, guard_code, Setting, HasHomes, StatementHasPublicIndexes}
 use Rattle.block_cache_gen.proofs.ArmExpressions.{guard-leaves}
 use Rattle.block_cache_gen.proofs.SecretRegions.{joined-slots, region-crossed}
-use Rattle.branch_padding.specs.Nesting.{nesting_of}
-use Rattle.branch_padding.specs.Padded.{region_code, padded_code, first_of, second_of}
-use Rattle.branch_padding.specs.PatternsOfChoices.{shows_of_region, slots_of_arms, pattern_of_region}
-use Rattle.branch_padding.specs.Regions.{NestsRegion}
+use Rattle.branch_padding.specs.Prelude.{nesting_of, region_code, padded_code, first_of, second_of, shows_of_region, slots_of_arms, pattern_of_region, NestsRegion}
 use Rattle.branch_padding.proofs.PublicRegions.{branch_offset}
 use Rattle.branch_padding.proofs.SecretStatements.{arms-go, each-goes}
 

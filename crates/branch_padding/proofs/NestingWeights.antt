@@ -4,12 +4,9 @@ use Rattle.std.proofs.Math.Nat.{pow-suc}
 use Rattle.std.proofs.lemmas.Bool.{cases_lt}
 use Rattle.gr_word.specs.declared.variables.Label.{Label}
 use Rattle.gr_word.specs.declared.variables.Label.TheVariants.{Public, Secret}
-use Rattle.src_tree.specs.Contexts.{Context}
-use Rattle.src_tree.specs.Labels.{label_of_test}
-use Rattle.src_tree.specs.Limits.{max_weight, test_weight, parts_weight, statement_weight, block_weight}
-use Rattle.src_tree.specs.Trees.{Test, Statement, SetVariable, SetElement, Choice, Loop, Block, Nothing, Then}
-use Rattle.trace_patterns.specs.Shape.{most_regions}
-use Rattle.branch_padding.specs.Nesting.{nesting_of, nesting_of_block}
+use Rattle.src_tree.specs.Prelude.{Context, label_of_test, max_weight, test_weight, parts_weight, statement_weight, block_weight, Test, Statement, SetVariable, SetElement, Choice, Loop, Block, Nothing, Then}
+use Rattle.trace_patterns.specs.Prelude.{most_regions}
+use Rattle.branch_padding.specs.Prelude.{nesting_of, nesting_of_block}
 
 -- the greater of two
 doubled : (n : ℕ) → 2 ^ (1 + n) ≡ 2 ^ n * 2

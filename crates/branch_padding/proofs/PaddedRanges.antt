@@ -8,22 +8,14 @@ use Rattle.gr_word.specs.declared.variables.Label.{Label}
 use Rattle.gr_word.specs.declared.variables.Label.TheVariants.{Public, Secret}
 use Rattle.lt_isa.specs.declared.instructions.Instr.{Instr}
 use Rattle.lt_isa.specs.declared.instructions.Instr.TheVariants.{Nop, Jmp, Br}
-use Rattle.src_tree.specs.Contexts.{context_of}
-use Rattle.src_tree.specs.Labels.{label_of_test}
-use Rattle.src_tree.specs.Limits.{max_weight, LowStatement, LowBlock, parts_weight, statement_weight, block_weight, test_weight}
-use Rattle.src_tree.specs.Trees.{Test, Statement, SetVariable, SetElement, Choice, Loop, Block, Nothing, Then}
-use Rattle.src_tree.specs.Typing.{TypedTest, TypedStatement, TypedBlock}
+use Rattle.src_tree.specs.Prelude.{context_of, label_of_test, max_weight, LowStatement, LowBlock, parts_weight, statement_weight, block_weight, test_weight, Test, Statement, SetVariable, SetElement, Choice, Loop, Block, Nothing, Then, TypedTest, TypedStatement, TypedBlock}
 use Rattle.block_cache_gen.specs.declared.frames.Mode.{Mode}
-use Rattle.block_cache_gen.specs.declared.frames.Mode.TheVariants as modes
-use Rattle.block_cache_gen.specs.Homes.{Setting}
-use Rattle.block_cache_gen.specs.Codes.{guard_code}
-use Rattle.block_cache_gen.specs.Alike.{pair_count}
-use Rattle.block_cache_gen.specs.ProgramWords.{StatementHasWords, BlockHasWords}
+use Rattle.block_cache_gen.specs.Prelude.{Setting, guard_code, pair_count, StatementHasWords, BlockHasWords}
 use Rattle.block_cache_gen.proofs.RangesOfCode.{HomesFit, CodeFits, NoCode, Before, code-both, guard-fits, set_variable-fits, set_element-fits}
-use Rattle.branch_padding.specs.Padded.{idle, arm_mode, in_a_row, untaken_arm, taken_arm, first_arm, second_arm, first_of, second_of, region_code, padded_code, padded_codes}
+use Rattle.branch_padding.specs.Prelude.{idle, arm_mode, in_a_row, untaken_arm, taken_arm, first_arm, second_arm, first_of, second_of, region_code, padded_code, padded_codes, slack_of}
 use Rattle.branch_padding.specs.declared.cycles.Slack.{Slack}
-use Rattle.branch_padding.specs.Cycles.{slack_of}
 use Rattle.branch_padding.proofs.Lengths.{statement-short}
+use Rattle.block_cache_gen.specs.declared.frames.Mode.TheVariants as modes
 
 -- pieces of code in their ranges
 data RowFits (banks : ℕ) : List (List Instr) → Type 0 where

@@ -5,51 +5,31 @@ use Rattle.std.specs.Option.{option_map}
 use Rattle.std.proofs.lemmas.Bool.{eqb-true}
 use Rattle.std.proofs.lemmas.List.{length-map}
 use Rattle.gr_word.specs.declared.variables.Label.{Label}
-use Rattle.gr_word.specs.declared.variables.Label.TheVariants as label
 use Rattle.lt_isa.specs.declared.instructions.Instr.{Instr}
 use Rattle.gr_word.specs.declared.operations.Cmp.{Cmp}
 use Rattle.lt_isa.specs.declared.instructions.Instr.TheVariants.{Br, Jmp}
-use Rattle.lt_isa.specs.Step.{target_of}
-use Rattle.lt_isa.specs.Object.{Parts, is_ram, is_eram}
-use Rattle.symbolic_values.specs.Trees.{Reg, SlotAt}
-use Rattle.src_tree.specs.Contexts.{context_of}
-use Rattle.src_tree.specs.Labels as labels
-use Rattle.src_tree.specs.Labels.{higher, inside, label_of, label_of_test}
-use Rattle.src_tree.specs.Limits.{LowStatement}
-use Rattle.src_tree.specs.Trees.{Test, Choice, Block}
-use Rattle.src_tree.specs.Typing.{TypedStatement, TypedBlock, DeclaredOnce}
-use Rattle.trace_patterns.specs.Known.{Known, is_secret, note_known}
-use Rattle.trace_patterns.specs.Rules.{Opens, Falls, jumped, claimed_at, ruling_of}
-use Rattle.trace_patterns.specs.Shape.{most_regions}
-use Rattle.trace_patterns.specs.SymStates.{RamSlot, EramSlot, OramSlot, Entry, SymState, entry_slot, at_entry, slot_bank, known_after, common}
-use Rattle.trace_patterns.specs.Visits.{CrossesFrom}
+use Rattle.lt_isa.specs.Prelude.{target_of, Parts, is_ram, is_eram}
+use Rattle.symbolic_values.specs.Prelude.{Reg, SlotAt}
+use Rattle.src_tree.specs.Prelude.{context_of, higher, inside, label_of, label_of_test, LowStatement, Test, Choice, Block, TypedStatement, TypedBlock, DeclaredOnce}
+use Rattle.trace_patterns.specs.Prelude.{Known, is_secret, note_known, Opens, Falls, jumped, claimed_at, ruling_of, most_regions, RamSlot, EramSlot, OramSlot, Entry, SymState, entry_slot, at_entry, slot_bank, known_after, common, CrossesFrom}
 use Rattle.trace_patterns.proofs.SymStateLaws.{tree-at_entry, slot-at_entry, sized-at_entry, secret-after, bank-after}
 use Rattle.trace_patterns.proofs.Walks.{crosses-wider}
-use Rattle.stretches.specs.InArms.{StandsInArm}
-use Rattle.stretches.specs.Passing.{HoldsAt, AsItComes, Passes, Done, Across}
+use Rattle.stretches.specs.Prelude.{StandsInArm, HoldsAt, AsItComes, Passes, Done, Across}
 use Rattle.stretches.proofs.Standing.{standing-first, standing-rest, standing-head}
 use Rattle.stretches.proofs.Passed.{passes-then, ruled-at, LieBetween, no_note-behind, notes-within}
 use Rattle.stretches.proofs.UnnotedPlaces.{quiet-unclaimed}
 use Rattle.block_cache_gen.specs.declared.frames.Mode.{Mode}
-use Rattle.block_cache_gen.specs.declared.frames.Mode.TheVariants as modes
-use Rattle.block_cache_gen.specs.Homes.{Setting, HasHomes, home_of}
-use Rattle.block_cache_gen.specs.Codes.{expr_code, guard_code}
-use Rattle.block_cache_gen.specs.Notes.{guard_notes}
-use Rattle.block_cache_gen.specs.Carries.{Carries, CarriesInArm, held_tree}
-use Rattle.block_cache_gen.specs.PublicCode.{StandsNoted}
-use Rattle.block_cache_gen.specs.PublicIndexes.{StatementHasPublicIndexes}
-use Rattle.held_registers.specs.Held.{IsSoundHeld}
+use Rattle.block_cache_gen.specs.Prelude.{Setting, HasHomes, home_of, expr_code, guard_code, guard_notes, Carries, CarriesInArm, held_tree, StandsNoted, StatementHasPublicIndexes}
+use Rattle.held_registers.specs.Prelude.{IsSoundHeld}
 use Rattle.block_cache_gen.proofs.HeldLabels.{label-low}
 use Rattle.block_cache_gen.proofs.NotesOfCode.{expression-longer}
 use Rattle.block_cache_gen.proofs.PublicGuards.{guard-lie, guard-passes}
 use Rattle.block_cache_gen.proofs.SecretRegions.{joined-carries, joined-slots, region-crossed}
-use Rattle.branch_padding.specs.Nesting.{nesting_of}
-use Rattle.branch_padding.specs.Cycles.{slack_of}
-use Rattle.branch_padding.specs.Padded.{region_code, padded_code, first_of, second_of}
-use Rattle.branch_padding.specs.PatternsOfChoices.{shows_of_region, slots_of_arms, pattern_of_region}
-use Rattle.branch_padding.specs.Regions.{OpensRegion}
-use Rattle.branch_padding.specs.SecretChoices.{PassedCode, IsPassedAnywhere}
+use Rattle.branch_padding.specs.Prelude.{nesting_of, slack_of, region_code, padded_code, first_of, second_of, shows_of_region, slots_of_arms, pattern_of_region, OpensRegion, PassedCode, IsPassedAnywhere}
 use Rattle.branch_padding.proofs.SecretStatements.{ArmsGo, arms-go, each-goes}
+use Rattle.gr_word.specs.declared.variables.Label.TheVariants as label
+use Rattle.src_tree.specs.Labels as labels
+use Rattle.block_cache_gen.specs.declared.frames.Mode.TheVariants as modes
 
 -- at the entry, and back in public code, a setting is carried
 entry-bank : (bank slot : ℕ) → slot_bank (entry_slot (Some bank) slot) ≡ Some bank

@@ -7,23 +7,16 @@ use Rattle.std.proofs.lemmas.Option.{none-some}
 use Rattle.lt_isa.specs.declared.instructions.Instr.{Instr}
 use Rattle.lt_isa.specs.declared.instructions.Instr.TheVariants.{Nop, Halt, Li, Alu, Ldb, Stb, Idb, Ldw, Stw, Jmp, Br}
 use Rattle.lt_isa.specs.declared.profiles.Profile.{Profile}
-use Rattle.lt_isa.specs.Object.{Parts}
+use Rattle.lt_isa.specs.Prelude.{Parts}
 use Rattle.lt_checker.proofs.Singles.{OnSingle, on_single, on_bound, on_stored}
-use Rattle.trace_patterns.specs.Patterns.{Shown, joined}
-use Rattle.trace_patterns.specs.Events.{TreeEvent}
-use Rattle.trace_patterns.specs.SymStates.{SymState, slot_held}
-use Rattle.trace_patterns.specs.Single.{gap, single}
-use Rattle.trace_patterns.specs.Walk.{WalksTo, AtEnd, Onward, Across}
-use Rattle.stretches.specs.InArms.{StandsInArm}
-use Rattle.stretches.specs.Shows.{Show, pattern_of}
-use Rattle.stretches.specs.Standing.{StandsAt}
+use Rattle.trace_patterns.specs.Prelude.{Shown, joined, TreeEvent, SymState, slot_held, gap, single, WalksTo, AtEnd, Onward, Across}
+use Rattle.stretches.specs.Prelude.{StandsInArm, Show, pattern_of, StandsAt}
 use Rattle.stretches.proofs.ShowLaws.{no_gap, gaps-joined, pattern_of-append}
 use Rattle.stretches.proofs.Standing.{standing-first, standing-head, standing-tail, standing-whole}
-use Rattle.block_cache_gen.specs.Homes.{Setting, HasHomes}
-use Rattle.block_cache_gen.specs.PatternsOf.{Loads, no_loads, then_loads}
+use Rattle.block_cache_gen.specs.Prelude.{Setting, HasHomes, Loads, no_loads, then_loads}
 use Rattle.block_cache_gen.proofs.ArmAssignments.{Goes}
 use Rattle.block_cache_gen.proofs.ArmStates.{then_loads-held}
-use Rattle.branch_padding.specs.Cycles.{quiet_cost, added, quiet_cycles}
+use Rattle.branch_padding.specs.Prelude.{quiet_cost, added, quiet_cycles}
 
 pub same_number : (m n : ℕ) → ◌≡◌ {A = Option ℕ} (Some m) (Some n) → m ≡ n
 same_number m n is = cc
@@ -53,18 +46,13 @@ quiet-single : (o : Parts) (s : SymState) (i : Instr) (c : ℕ) → quiet_cost o
     → OnSingle (IsQuietStep c s) (single o s i)
 unfolding single
 quiet-single o s Nop c is = (ap gap (same_number 1 c is), λ k. refl)
-quiet-single o s Halt c is = absurd (none-some c is)
 quiet-single o s (Li rd value) c is = (ap gap (same_number 1 c is), λ k. refl)
 quiet-single o s (Alu op rd ra rb) c is = (ap gap (same_number _ c is), λ k. refl)
-quiet-single o s (Ldb slot bank r) c is = absurd (none-some c is)
-quiet-single o s (Stb slot) c is = absurd (none-some c is)
-quiet-single o s (Idb rd slot) c is = absurd (none-some c is)
 quiet-single o s (Ldw rd slot ro) c is =
     on_bound (IsQuietStep c s) (slot_held s slot) _ (λ known. (ap gap (same_number o.profile.word c is), λ k. refl))
 quiet-single o s (Stw rs slot ro) c is =
     on_stored (IsQuietStep c s) (slot_held s slot) _ (λ hidden. (ap gap (same_number o.profile.word c is), λ k. refl))
-quiet-single o s (Jmp offset) c is = absurd (none-some c is)
-quiet-single o s (Br cmp ra rb offset) c is = absurd (none-some c is)
+quiet-single o s other c is = absurd (none-some c is)
 
 same_instr : (o : Parts) (p : ℕ) (i j : Instr) (code : List Instr) → slice_get o.code p ≡ Some i
     → StandsAt o p (j ∷ code) → j ≡ i

@@ -5,29 +5,18 @@ use Rattle.std.specs.Prelude.{if◌then◌else◌, nat_le}
 use Rattle.std.proofs.lemmas.Bool.{and_parts, leb-true}
 use Rattle.std.proofs.lemmas.Option.{none-some}
 use Rattle.gr_word.specs.declared.variables.Label.TheVariants.{Secret}
-use Rattle.lt_isa.specs.Object.{Parts}
-use Rattle.src_tree.specs.Contexts.{context_of}
-use Rattle.src_tree.specs.Limits.{LowStatement, LowBlock}
-use Rattle.src_tree.specs.Trees.{Statement, SetVariable, SetElement, Choice, Loop, Block, Nothing, Then}
-use Rattle.src_tree.specs.Typing.{TypedStatement, TypedBlock}
-use Rattle.trace_patterns.specs.Patterns.{joined}
-use Rattle.trace_patterns.specs.SymStates.{SymState}
-use Rattle.trace_patterns.specs.Single.{gap}
-use Rattle.stretches.specs.Shows.{Show, Gap, pattern_of}
+use Rattle.lt_isa.specs.Prelude.{Parts}
+use Rattle.src_tree.specs.Prelude.{context_of, LowStatement, LowBlock, Statement, SetVariable, SetElement, Choice, Loop, Block, Nothing, Then, TypedStatement, TypedBlock}
+use Rattle.trace_patterns.specs.Prelude.{joined, SymState, gap}
+use Rattle.stretches.specs.Prelude.{Show, Gap, pattern_of}
 use Rattle.stretches.proofs.ShowLaws.{gaps-joined, pattern_of-alone, pattern_of-append}
-use Rattle.block_cache_gen.specs.declared.frames.Mode.TheVariants as modes
-use Rattle.block_cache_gen.specs.Alike.{pair_count}
-use Rattle.block_cache_gen.specs.Carries.{CarriesInArm}
-use Rattle.block_cache_gen.specs.Codes.{guard_code, set_code}
-use Rattle.block_cache_gen.specs.Homes.{Setting, HasHomes}
-use Rattle.block_cache_gen.specs.PatternsOf.{Loads, tree_of_expr, shows_of_test, slots_of_test, shows_of_set, slots_of_set}
-use Rattle.block_cache_gen.specs.PublicIndexes.{StatementHasPublicIndexes, BlockHasPublicIndexes}
+use Rattle.block_cache_gen.specs.Prelude.{pair_count, CarriesInArm, guard_code, set_code, Setting, HasHomes, Loads, tree_of_expr, shows_of_test, slots_of_test, shows_of_set, slots_of_set, StatementHasPublicIndexes, BlockHasPublicIndexes}
 use Rattle.block_cache_gen.proofs.ArmAssignments.{Goes, goes-leaves, set-goes}
 use Rattle.block_cache_gen.proofs.ArmExpressions.{guard-leaves}
 use Rattle.branch_padding.specs.declared.cycles.Slack.{Slack}
-use Rattle.branch_padding.specs.Cycles.{most_slack, quiet_cycles, slack_by, slack_between, region_cycles, cycles_of, cycles_of_all, slack_of}
-use Rattle.branch_padding.specs.PatternsOfChoices.{shown_in_a_row, loaded_in_a_row, padded_shows, padded_loads, shows_of, shows_of_each, shows_of_region, slots_of, slots_of_each, slots_of_arms}
+use Rattle.branch_padding.specs.Prelude.{most_slack, quiet_cycles, slack_by, slack_between, region_cycles, cycles_of, cycles_of_all, slack_of, shown_in_a_row, loaded_in_a_row, padded_shows, padded_loads, shows_of, shows_of_each, shows_of_region, slots_of, slots_of_each, slots_of_arms}
 use Rattle.branch_padding.proofs.QuietCode.{same_number, added-parts, object_of, homes-in, IsQuiet, quiet-none, quiet-then, quiet-code}
+use Rattle.block_cache_gen.specs.declared.frames.Mode.TheVariants as modes
 
 -- With what they idle, both ways take the same cycles, and neither idles long.
 pub record IsSlack (x y : Option ℕ) (slack : Slack) : Type 0 where

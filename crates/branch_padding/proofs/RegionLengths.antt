@@ -2,30 +2,21 @@
 -- parts fit their arms.
 use Rattle.std.proofs.Common.{◌≡◌, ℕ, ◌+◌, ◌*◌, ◌≤◌, List, [], ◌∷◌, length, Option, sym, subst, arith, set, Some, None, ap, ◌∙◌, ◌++◌, length-append}
 use Rattle.std.proofs.lemmas.List.{length-set, length-replicate}
-use Rattle.gr_word.specs.declared.variables.Label.TheVariants as label
 use Rattle.lt_isa.specs.declared.instructions.Instr.TheVariants.{Nop}
 use Rattle.lt_isa.specs.declared.instructions.Instr.{Instr}
 use Rattle.src_tree.specs.declared.trees.Stmt.{Stmt}
-use Rattle.src_tree.specs.Contexts.{context_of}
-use Rattle.src_tree.specs.Limits.{LowStatement, statement_weight, block_weight, test_weight}
-use Rattle.src_tree.specs.Trees.{Test, Choice, Block, block_of_all}
-use Rattle.src_tree.specs.Typing.{TypedStatement}
+use Rattle.src_tree.specs.Prelude.{context_of, LowStatement, statement_weight, block_weight, test_weight, Test, Choice, Block, block_of_all, TypedStatement}
 use Rattle.block_cache_gen.specs.declared.frames.CodeBuf.{CodeBuf}
 use Rattle.block_cache_gen.specs.declared.frames.Mode.{Mode}
-use Rattle.block_cache_gen.specs.declared.frames.Mode.TheVariants as modes
-use Rattle.block_cache_gen.specs.Homes.{Setting}
-use Rattle.block_cache_gen.specs.Alike.{pair_count}
-use Rattle.block_cache_gen.specs.Emitted.{Appended, EmitsGuard, no_notes, notes_in}
-use Rattle.block_cache_gen.specs.Codes.{guard_code}
-use Rattle.block_cache_gen.specs.Notes.{guard_notes}
+use Rattle.block_cache_gen.specs.Prelude.{Setting, pair_count, Appended, EmitsGuard, no_notes, notes_in, guard_code, guard_notes}
 use Rattle.block_cache_gen.proofs.Emitting.{appended_length}
-use Rattle.branch_padding.specs.EmittedBranches.{PartsFit, both_weights}
+use Rattle.branch_padding.specs.Prelude.{PartsFit, both_weights, slack_of, most_slack, cycles_of_all, arm_mode, first_arm, padded_codes, idle, in_a_row, untaken_arm, taken_arm, first_padded, second_padded, second_arm}
 use Rattle.branch_padding.specs.declared.cycles.Slack.{Slack}
-use Rattle.branch_padding.specs.Cycles.{slack_of, most_slack, cycles_of_all}
-use Rattle.branch_padding.specs.Padded.{arm_mode, first_arm, padded_codes, idle, in_a_row, untaken_arm, taken_arm, first_padded, second_padded, second_arm}
 use Rattle.branch_padding.proofs.EmittedRegions.{arm-arm, pairs-within}
 use Rattle.branch_padding.proofs.QuietStatements.{slack-between}
 use Rattle.branch_padding.proofs.Lengths.{guard-short, first-short, second-short, untaken-short, taken-short, row-short}
+use Rattle.gr_word.specs.declared.variables.Label.TheVariants as label
+use Rattle.block_cache_gen.specs.declared.frames.Mode.TheVariants as modes
 
 -- how far the code reaches after each part of a branch
 pub guard-behind : (f : Setting) (mode : Mode) (t : Test) (a b : CodeBuf) → EmitsGuard f mode 0 t a b

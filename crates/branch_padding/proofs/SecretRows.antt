@@ -2,16 +2,13 @@
 use Rattle.std.proofs.Common.{◌≡◌, ℕ, zero, suc, List, [], ◌∷◌, ◌++◌, take, drop, refl, sym, ap, ◌∙◌, append_assoc}
 use Rattle.std.proofs.lemmas.List.{take-append-drop}
 use Rattle.lt_isa.specs.declared.instructions.Instr.{Instr}
-use Rattle.lt_isa.specs.Object.{Parts}
+use Rattle.lt_isa.specs.Prelude.{Parts}
 use Rattle.src_tree.proofs.Chains.{or_none, or_assoc}
-use Rattle.trace_patterns.specs.SymStates.{SymState}
-use Rattle.stretches.specs.Shows.{Show}
-use Rattle.block_cache_gen.specs.Homes.{Setting}
-use Rattle.block_cache_gen.specs.Carries.{CarriesInArm}
-use Rattle.block_cache_gen.specs.PatternsOf.{Loads, no_loads, then_loads}
+use Rattle.trace_patterns.specs.Prelude.{SymState}
+use Rattle.stretches.specs.Prelude.{Show}
+use Rattle.block_cache_gen.specs.Prelude.{Setting, CarriesInArm, Loads, no_loads, then_loads}
 use Rattle.block_cache_gen.proofs.ArmAssignments.{Goes, goes-none, goes-then}
-use Rattle.branch_padding.specs.Padded.{in_a_row}
-use Rattle.branch_padding.specs.PatternsOfChoices.{shown_in_a_row, loaded_in_a_row, both_rests}
+use Rattle.branch_padding.specs.Prelude.{in_a_row, shown_in_a_row, loaded_in_a_row, both_rests}
 
 -- what is shown in a row, and loaded, is so part by part
 pub shown-append : (xs ys : List (List Show)) → shown_in_a_row (xs ++ ys) ≡ shown_in_a_row xs ++ shown_in_a_row ys

@@ -1,18 +1,11 @@
 -- The code of statements in secret code, at any place in an arm.
 use Rattle.std.proofs.Common.{◌≡◌, ◌≤◌, false}
 use Rattle.gr_word.specs.declared.variables.Label.TheVariants.{Secret}
-use Rattle.src_tree.specs.Contexts.{context_of}
-use Rattle.src_tree.specs.Limits.{LowStatement}
-use Rattle.src_tree.specs.Trees.{Statement}
-use Rattle.src_tree.specs.Typing.{TypedStatement}
+use Rattle.src_tree.specs.Prelude.{context_of, LowStatement, Statement, TypedStatement}
 use Rattle.block_cache_gen.specs.declared.frames.Mode.{Mode}
-use Rattle.block_cache_gen.specs.Homes.{Setting}
-use Rattle.block_cache_gen.specs.Codes.{may_skip_loads}
-use Rattle.block_cache_gen.specs.PublicIndexes.{StatementHasPublicIndexes}
+use Rattle.block_cache_gen.specs.Prelude.{Setting, may_skip_loads, StatementHasPublicIndexes}
 use Rattle.block_cache_gen.proofs.SecretWalks.{walk-goes}
-use Rattle.branch_padding.specs.Padded.{padded_code}
-use Rattle.branch_padding.specs.PatternsOfChoices.{shows_of, slots_of}
-use Rattle.branch_padding.specs.SecretChoices.{IsWalkedAsStatement}
+use Rattle.branch_padding.specs.Prelude.{padded_code, shows_of, slots_of, IsWalkedAsStatement}
 use Rattle.branch_padding.proofs.SecretStatements.{statement-goes}
 
 -- the code of a statement is walked in an arm

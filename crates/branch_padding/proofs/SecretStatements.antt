@@ -4,43 +4,27 @@ use Rattle.std.proofs.Common.{◌≡◌, ℕ, suc, ◌+◌, ◌-◌, ◌<◌, �
 use Rattle.gr_word.specs.declared.variables.Label.TheVariants.{Secret}
 use Rattle.lt_isa.specs.declared.instructions.Instr.{Instr}
 use Rattle.lt_isa.specs.declared.profiles.Profile.{Profile}
-use Rattle.lt_isa.specs.Object.{Parts}
-use Rattle.src_tree.specs.Contexts.{context_of}
-use Rattle.src_tree.specs.Limits.{LowStatement, LowBlock}
-use Rattle.src_tree.specs.Trees.{Test, Statement, SetVariable, SetElement, Choice, Loop, Block, Nothing, Then}
-use Rattle.src_tree.specs.Typing.{TypedStatement, TypedBlock}
-use Rattle.trace_patterns.specs.Patterns.{Shown, no_events, with_gap, joined}
-use Rattle.trace_patterns.specs.Events.{TreeEvent}
-use Rattle.trace_patterns.specs.Shape.{most_regions}
-use Rattle.trace_patterns.specs.Single.{gap}
-use Rattle.trace_patterns.specs.SymStates.{SymState}
-use Rattle.trace_patterns.specs.Walk.{untaken_way, taken_way}
+use Rattle.lt_isa.specs.Prelude.{Parts}
+use Rattle.src_tree.specs.Prelude.{context_of, LowStatement, LowBlock, Test, Statement, SetVariable, SetElement, Choice, Loop, Block, Nothing, Then, TypedStatement, TypedBlock}
+use Rattle.trace_patterns.specs.Prelude.{Shown, no_events, with_gap, joined, TreeEvent, most_regions, gap, SymState, untaken_way, taken_way}
 use Rattle.trace_patterns.proofs.PatternLaws.{with_gap-more}
-use Rattle.stretches.specs.Shows.{Show, Gap, pattern_of, region_shows}
+use Rattle.stretches.specs.Prelude.{Show, Gap, pattern_of, region_shows}
 use Rattle.stretches.proofs.ArmCode.{walked-then}
 use Rattle.stretches.proofs.ArmRegions.{paused, walked-pauses, pattern_of-pause, untaken-shows, taken-shows}
 use Rattle.stretches.proofs.ShowLaws.{gaps-joined, pattern_of-alone, pattern_of-append}
 use Rattle.block_cache_gen.specs.declared.frames.Mode.{Mode}
-use Rattle.block_cache_gen.specs.declared.frames.Mode.TheVariants as modes
-use Rattle.block_cache_gen.specs.Homes.{Setting, HasHomes}
-use Rattle.block_cache_gen.specs.Codes.{may_skip_loads, guard_code}
-use Rattle.block_cache_gen.specs.PublicIndexes.{StatementHasPublicIndexes, BlockHasPublicIndexes}
-use Rattle.block_cache_gen.specs.Carries.{CarriesInArm}
-use Rattle.block_cache_gen.specs.PatternsOf.{Loads, no_loads, then_loads, tree_of_expr, shows_of_test, slots_of_test}
-use Rattle.block_cache_gen.specs.Alike.{Pair, ToScalars, ToOblivious, ToResidents, ToSame, StartsPaired, NonePaired, OnePaired, pair_count}
+use Rattle.block_cache_gen.specs.Prelude.{Setting, HasHomes, may_skip_loads, guard_code, StatementHasPublicIndexes, BlockHasPublicIndexes, CarriesInArm, Loads, no_loads, then_loads, tree_of_expr, shows_of_test, slots_of_test, Pair, ToScalars, ToOblivious, ToResidents, ToSame, StartsPaired, NonePaired, OnePaired, pair_count}
 use Rattle.block_cache_gen.proofs.AlikeShows.{pair-shows, pair-slots}
 use Rattle.block_cache_gen.proofs.AlikeTests.{counts_pairs}
 use Rattle.block_cache_gen.proofs.ArmExpressions.{guard-leaves}
 use Rattle.block_cache_gen.proofs.ArmAssignments.{Goes, goes-none, goes-leaves, goes-then, set-goes}
 use Rattle.block_cache_gen.proofs.SecretRegions.{goes-region}
-use Rattle.branch_padding.specs.Nesting.{nesting_of, nesting_of_block}
+use Rattle.branch_padding.specs.Prelude.{nesting_of, nesting_of_block, cycles_of_all, slack_of, idle, arm_mode, in_a_row, untaken_arm, taken_arm, first_arm, second_arm, region_code, padded_code, padded_codes, first_of, second_of, shown_in_a_row, loaded_in_a_row, padded_shows, padded_loads, mirrored_shows, mirrored_loads, shows_of, shows_of_each, shows_of_region, slots_of, slots_of_each, slots_of_arms}
 use Rattle.branch_padding.specs.declared.cycles.Slack.{Slack}
-use Rattle.branch_padding.specs.Cycles.{cycles_of_all, slack_of}
-use Rattle.branch_padding.specs.Padded.{idle, arm_mode, in_a_row, untaken_arm, taken_arm, first_arm, second_arm, region_code, padded_code, padded_codes, first_of, second_of}
-use Rattle.branch_padding.specs.PatternsOfChoices.{shown_in_a_row, loaded_in_a_row, padded_shows, padded_loads, mirrored_shows, mirrored_loads, shows_of, shows_of_each, shows_of_region, slots_of, slots_of_each, slots_of_arms}
 use Rattle.branch_padding.proofs.QuietCode.{IsQuiet}
 use Rattle.branch_padding.proofs.QuietStatements.{IsSlack, slack-between, taken-cycles, block-quiet}
 use Rattle.branch_padding.proofs.SecretRows.{shown-rests, loaded-rests, GoesAnywhere, EachGoes, NoneGoes, OneGoes, row-goes, take-goes, drop-goes, three-go}
+use Rattle.block_cache_gen.specs.declared.frames.Mode.TheVariants as modes
 
 -- the arms of a branch are secret code
 pub arm-secret : (mode : Mode) → may_skip_loads (arm_mode mode) ≡ false

@@ -5,27 +5,19 @@ use Rattle.std.proofs.lemmas.List.{take-map, drop-map}
 use Rattle.std.proofs.lemmas.List.Sums.{sum_by-append}
 use Rattle.gr_word.specs.declared.operations.Cmp.{Cmp}
 use Rattle.gr_word.specs.declared.variables.Label.{Label}
-use Rattle.gr_word.specs.declared.variables.Label.TheVariants as label
 use Rattle.lt_isa.specs.declared.instructions.Instr.{Instr}
 use Rattle.lt_isa.specs.declared.instructions.Instr.TheVariants.{Nop, Jmp, Br}
-use Rattle.src_tree.specs.Contexts.{context_of}
-use Rattle.src_tree.specs.Labels.{label_of_test}
-use Rattle.src_tree.specs.Trees.{Tree, Test, Statement, SetVariable, SetElement, Choice, Loop, Block, Nothing, Then}
-use Rattle.src_tree.specs.Typing.{TypedStatement, TypedBlock}
+use Rattle.src_tree.specs.Prelude.{context_of, label_of_test, Tree, Test, Statement, SetVariable, SetElement, Choice, Loop, Block, Nothing, Then, TypedStatement, TypedBlock}
 use Rattle.block_cache_gen.specs.declared.frames.Mode.{Mode}
-use Rattle.block_cache_gen.specs.declared.frames.Mode.TheVariants as modes
-use Rattle.block_cache_gen.specs.Homes.{further_slots, Home, Setting, home_of}
-use Rattle.block_cache_gen.specs.Codes.{fixed_index, guard_code}
-use Rattle.block_cache_gen.specs.Alike.{Alike, AreReducedAlike, InOneBank, Pair, ToScalars, ToOblivious, ToResidents, ToSame, StartsPaired, NonePaired, OnePaired, pair_count}
-use Rattle.block_cache_gen.specs.StoredWords.{stored_words, stores_by, stores_in}
+use Rattle.block_cache_gen.specs.Prelude.{further_slots, Home, Setting, home_of, fixed_index, guard_code, Alike, AreReducedAlike, InOneBank, Pair, ToScalars, ToOblivious, ToResidents, ToSame, StartsPaired, NonePaired, OnePaired, pair_count, stored_words, stores_by, stores_in}
 use Rattle.block_cache_gen.proofs.AlikeShows.{alike-fixed, oblivious-fixed}
 use Rattle.block_cache_gen.proofs.AlikeTests.{counts_pairs}
 use Rattle.block_cache_gen.proofs.SecretCodes.{stored-append, guard-stores, variable-stores, element-stores}
 use Rattle.block_cache_gen.proofs.SingleHomes.{ObliviousAreSingle}
-use Rattle.branch_padding.specs.Padded.{idle, in_a_row, arm_mode, untaken_arm, taken_arm, first_arm, second_arm, first_of, second_of, region_code, padded_code, padded_codes}
+use Rattle.branch_padding.specs.Prelude.{idle, in_a_row, arm_mode, untaken_arm, taken_arm, first_arm, second_arm, first_of, second_of, region_code, padded_code, padded_codes, slack_of, added_up, arms_stores, choice_stores, stores_of, stores_of_each}
 use Rattle.branch_padding.specs.declared.cycles.Slack.{Slack}
-use Rattle.branch_padding.specs.Cycles.{slack_of}
-use Rattle.branch_padding.specs.Stores.{added_up, arms_stores, choice_stores, stores_of, stores_of_each}
+use Rattle.gr_word.specs.declared.variables.Label.TheVariants as label
+use Rattle.block_cache_gen.specs.declared.frames.Mode.TheVariants as modes
 
 module _ (once : Bool) where
   -- pieces in a row have the stores of all

@@ -2,7 +2,6 @@
 -- (GhostRider, ASPLOS 2015: the arms of a branch on a secret are padded so that both show the same.)
 use Rattle.std.specs.Prelude.{◌≡◌, ℕ, List}
 use Rattle.gr_word.specs.declared.variables.Label.{Label}
-use Rattle.gr_word.specs.declared.variables.Label.TheVariants as label
 use Rattle.lt_isa.specs.declared.instructions.Instr.{Instr}
 use Rattle.lt_isa.specs.declared.symbols.Note.{Note}
 use Rattle.src_tree.specs.Contexts.{Context, context_of}
@@ -14,6 +13,7 @@ use Rattle.src_tree.specs.Statements.{StandsIn}
 use Rattle.block_cache_gen.specs.Homes.{Setting}
 use Rattle.block_cache_gen.specs.PublicCode.{AtItsPlace}
 use Rattle.branch_padding.specs.SecretChoices.{PassedCode}
+use Rattle.gr_word.specs.declared.variables.Label.TheVariants as label
 
 -- the label of the code for which a mode is
 abbrev pub code_for : Mode → Label
@@ -23,10 +23,8 @@ code_for Mirrored = label.Secret
 
 -- A choice whose parts are secret code: in public code that is one by a secret guard, and in secret code each.
 abbrev pub IsSecretChoice : Context → Label → Statement → Type 0
-IsSecretChoice known code (SetVariable x e) = ⊥
-IsSecretChoice known code (SetElement x i e) = ⊥
 IsSecretChoice known code (Choice t a b) = inside known code t ≡ label.Secret
-IsSecretChoice known code (Loop t a) = ⊥
+IsSecretChoice known code other = ⊥
 
 -- a choice of a program, in the code for which a mode is
 pub record IsBranchFor (p : Source) (mode : Mode) (s : Statement) : Type 0 where

@@ -15,16 +15,11 @@ use Rattle.branch_padding.specs.declared.cycles.Slack.{Slack}
 -- the cycles of an instruction that shows no event in an arm and continues to the next one
 abbrev pub quiet_cost : Profile → Instr → Option ℕ
 quiet_cost p Nop = Some 1
-quiet_cost p Halt = None
 quiet_cost p (Li rd value) = Some 1
 quiet_cost p (Alu op rd ra rb) = Some (operation_cost p op)
-quiet_cost p (Ldb k bank r) = None
-quiet_cost p (Stb k) = None
-quiet_cost p (Idb rd k) = None
 quiet_cost p (Ldw rd k ro) = Some p.word
 quiet_cost p (Stw rs k ro) = Some p.word
-quiet_cost p (Jmp offset) = None
-quiet_cost p (Br cmp ra rb offset) = None
+quiet_cost p other = None
 
 -- Two numbers of cycles together. There is none if one is missing or the sum has more than 32 bits.
 abbrev pub sum_within : ℕ → ℕ → Option ℕ

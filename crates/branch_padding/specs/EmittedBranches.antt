@@ -1,7 +1,6 @@
 -- For proofs, and for the functions that code_gen builds on: what is asked of the parts of a branch, and what is
 -- appended for it.
 use Rattle.std.specs.Prelude.{◌≡◌, ℕ, ◌+◌, ◌≤◌, List, length}
-use Rattle.gr_word.specs.declared.variables.Label.TheVariants as label
 use Rattle.src_tree.specs.declared.trees.Guard.{Guard}
 use Rattle.src_tree.specs.declared.trees.Stmt.{Stmt}
 use Rattle.src_tree.specs.Contexts.{context_of}
@@ -14,6 +13,7 @@ use Rattle.block_cache_gen.specs.Emitted.{Appended, notes_in}
 use Rattle.block_cache_gen.specs.Homes.{Setting}
 use Rattle.block_cache_gen.specs.Notes.{guard_notes}
 use Rattle.branch_padding.specs.Padded.{arm_mode, padded_code}
+use Rattle.gr_word.specs.declared.variables.Label.TheVariants as label
 
 -- what two parts weigh together, as secret code
 abbrev pub both_weights : Setting → Block → Block → ℕ
@@ -37,10 +37,8 @@ abbrev pub choice_of : Guard → List Stmt → List Stmt → Statement
 choice_of guard first second = Choice (test_of guard) (block_of_all first) (block_of_all second)
 
 abbrev pub IsChoice : Statement → Type 0
-IsChoice (SetVariable x e) = ⊥
-IsChoice (SetElement x i e) = ⊥
 IsChoice (Choice t a b) = Unit {0}
-IsChoice (Loop t a) = ⊥
+IsChoice other = ⊥
 
 -- a branch was appended, and in public code the notes of its guard
 abbrev pub EmitsChoice : Setting → Mode → Test → Block → Block → CodeBuf → CodeBuf → Type 0
@@ -48,7 +46,5 @@ EmitsChoice f mode t a b before after =
     Appended before after (padded_code f mode (Choice t a b)) (λ place. notes_in mode (guard_notes f 0 place t))
 
 abbrev pub EmitsBranch : Setting → Mode → Statement → CodeBuf → CodeBuf → Type 0
-EmitsBranch f mode (SetVariable x e) before after = ⊥
-EmitsBranch f mode (SetElement x i e) before after = ⊥
 EmitsBranch f mode (Choice t a b) before after = EmitsChoice f mode t a b before after
-EmitsBranch f mode (Loop t a) before after = ⊥
+EmitsBranch f mode other before after = ⊥

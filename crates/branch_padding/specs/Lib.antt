@@ -12,3 +12,4 @@ pub mod Regions
 pub mod Effects
 pub mod Makes
 pub mod Branches
+pub mod Prelude

@@ -70,7 +70,5 @@ pub record IsOneRegion (f : Setting) (mode : Mode) (t : Test) (a b : Block) (pla
 
 -- so is the code of a choice
 abbrev pub IsRegionOf : Setting → Mode → Statement → (place : ℕ) → List Instr → List Note → Type 0
-IsRegionOf f mode (SetVariable x e) place code notes = ⊥
-IsRegionOf f mode (SetElement x i e) place code notes = ⊥
 IsRegionOf f mode (Choice t a b) place code notes = IsOneRegion f mode t a b place code notes
-IsRegionOf f mode (Loop t a) place code notes = ⊥
+IsRegionOf f mode other place code notes = ⊥

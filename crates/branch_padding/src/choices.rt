@@ -1,19 +1,12 @@
 ghost use Rattle.std.specs.Prelude.{◌≡◌, ◌+◌, ◌-◌, ◌*◌, ◌<◌, ◌≤◌, [], ◌∷◌, ◌++◌, OnOk, length};
-ghost use Rattle.gr_word.specs.declared.variables.Label.TheVariants as label;
-ghost use Rattle.src_tree.specs.Contexts.{context_of};
-ghost use Rattle.src_tree.specs.Labels.{label_of_test};
-ghost use Rattle.src_tree.specs.Limits.{LowBlock, LowStatement, block_weight, statement_weight};
-ghost use Rattle.src_tree.specs.Trees.{block_of_all, statement_of, test_of};
-ghost use Rattle.src_tree.specs.Typing.{TypedBlock, TypedStatement};
-ghost use Rattle.lt_isa.specs.Limits.{most_instructions};
-ghost use Rattle.block_cache_gen.specs.declared.frames.Mode.TheVariants as modes;
-ghost use Rattle.block_cache_gen.specs.Alike.{pair_count};
-ghost use Rattle.block_cache_gen.specs.Emitted.{Appended, CodeGrows, no_notes, notes_in};
-ghost use Rattle.block_cache_gen.specs.Notes.{guard_notes};
-ghost use Rattle.block_cache_gen.specs.ProgramWords.{BlockHasWords, StatementHasWords};
+ghost use Rattle.src_tree.specs.Prelude.{context_of, label_of_test, LowBlock, LowStatement, block_weight, statement_weight, block_of_all, statement_of, test_of, TypedBlock, TypedStatement};
+ghost use Rattle.lt_isa.specs.Prelude.{most_instructions};
+ghost use Rattle.block_cache_gen.specs.Prelude.{pair_count, Appended, CodeGrows, no_notes, notes_in, guard_notes, BlockHasWords, StatementHasWords};
 ghost use Rattle.branch_padding.specs.EmittedBranches.{PartsFit, both_weights, choice_of};
 ghost use Rattle.branch_padding.specs.Rows.{HaveWords, row_between};
 ghost use Rattle.branch_padding.specs.Padded.{arm_mode, first_arm, idle, in_a_row, padded_code, padded_codes, second_arm};
+ghost use Rattle.gr_word.specs.declared.variables.Label.TheVariants as label;
+ghost use Rattle.block_cache_gen.specs.declared.frames.Mode.TheVariants as modes;
 
 use crate::cycles::{Slack, slack_of};
 use block_cache_gen::{

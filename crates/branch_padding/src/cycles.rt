@@ -1,12 +1,8 @@
 ghost use Rattle.std.specs.Prelude.{◌≡◌, ◌+◌, ◌*◌, ◌≤◌, IfOk, length};
-ghost use Rattle.gr_word.specs.declared.variables.Label.TheVariants as label;
-ghost use Rattle.src_tree.specs.Contexts.{context_of};
-ghost use Rattle.src_tree.specs.Limits.{LowBlock, LowStatement, block_weight, statement_weight};
-ghost use Rattle.src_tree.specs.Trees.{block_of_all, statement_of};
-ghost use Rattle.src_tree.specs.Typing.{TypedBlock, TypedStatement};
-ghost use Rattle.lt_isa.specs.Costs.{operation_cost};
-ghost use Rattle.lt_isa.specs.Limits.{most_instructions};
+ghost use Rattle.src_tree.specs.Prelude.{context_of, LowBlock, LowStatement, block_weight, statement_weight, block_of_all, statement_of, TypedBlock, TypedStatement};
+ghost use Rattle.lt_isa.specs.Prelude.{operation_cost, most_instructions};
 ghost use Rattle.branch_padding.specs.Cycles.{added, cycles_of, cycles_of_all, quiet_cost, quiet_cycles, region_cycles, slack_between, slack_by, slack_of};
+ghost use Rattle.gr_word.specs.declared.variables.Label.TheVariants as label;
 
 use block_cache_gen::{CodeBuf, Emitter, Mode, put_guard, put_set_element, put_set_variable};
 use gr_base::Memory;

@@ -1,13 +1,8 @@
 -- Where all other cores have halted, one core runs to the end at once: nothing can start between its transfers.
 use Rattle.std.proofs.Common.{◌≡◌, ◌≢◌, ℕ, ◌≤◌, List, Contains, Some, arith}
 use Rattle.std.specs.Prelude.{slice_get}
-use Rattle.lt_isa.specs.Ranges.{IsInRange}
-use Rattle.lt_isa.specs.Shape.{IsShaped}
-use Rattle.bus_arbiter.specs.Cores.{Core, shows_to}
-use Rattle.bus_arbiter.specs.Rounds.{FailOn, GoOn, OthersHalted}
-use Rattle.bus_arbiter.specs.Telling.{FailedAt}
-use Rattle.bus_arbiter.specs.Transfers.{Transfer}
-use Rattle.bus_arbiter.specs.Turns.{Turned}
+use Rattle.lt_isa.specs.Prelude.{IsInRange, IsShaped}
+use Rattle.bus_arbiter.specs.Prelude.{Core, shows_to, FailOn, GoOn, OthersHalted, FailedAt, Transfer, Turned}
 use Rattle.bus_arbiter.proofs.Joining.{joins-on, shown-live}
 use Rattle.bus_arbiter.proofs.Rounding.{slot-failed}
 

@@ -3,16 +3,12 @@ use Rattle.std.proofs.Common.{◌≡◌, ℕ, zero, suc, ◌<◌, ◌≤◌, Lis
 use Rattle.std.specs.Prelude.{slice_get, slice_set, is_none}
 use Rattle.std.proofs.lemmas.Option.{none-some, same_Some, slice_get_within, slice_get-get_or}
 use Rattle.std.proofs.lemmas.Bool.{cases_eq}
-use Rattle.lt_isa.specs.Ranges.{IsInRange}
-use Rattle.lt_isa.specs.Shape.{IsShaped}
-use Rattle.lt_isa.specs.Trace.{final_from}
-use Rattle.processor.specs.declared.ends.End.TheVariants as end
-use Rattle.processor.specs.Ends.{EndsAs}
-use Rattle.processor.specs.Machines.{Running}
+use Rattle.lt_isa.specs.Prelude.{IsInRange, IsShaped, final_from}
+use Rattle.processor.specs.Prelude.{EndsAs, Running}
 use Rattle.bus_arbiter.specs.declared.shares.Share.{Share}
-use Rattle.bus_arbiter.specs.Cores.{AllStand, AreLive, Core, LeftAt, LeftIf, NoneHalted, OnItsWay, OnItsWayIf, Stands, trace_to}
-use Rattle.bus_arbiter.specs.Shares.{share_at, share_of}
+use Rattle.bus_arbiter.specs.Prelude.{AllStand, AreLive, Core, LeftAt, LeftIf, NoneHalted, OnItsWay, OnItsWayIf, Stands, trace_to, share_at, share_of}
 use Rattle.bus_arbiter.proofs.Plays.{get-set_other, get-set_same, length-put}
+use Rattle.processor.specs.declared.ends.End.TheVariants as end
 
 -- one item more
 pub get-more : {X : Type 0} (xs : List X) (x : X) (k : ℕ) (c : X) → slice_get (xs ++ x ∷ []) k ≡ Some c

@@ -3,21 +3,14 @@ use Rattle.std.proofs.Common.{◌≡◌, ℕ, ◌≤◌, max, List, [], ◌++◌
 use Rattle.std.proofs.lemmas.List.{append-nil}
 use Rattle.std.proofs.lemmas.List.Elements.{Contains-append_right}
 use Rattle.std.proofs.lemmas.Bool.{cases_lt}
-use Rattle.lt_isa.specs.Object.{Parts}
-use Rattle.lt_isa.specs.Ranges.{IsInRange}
-use Rattle.lt_isa.specs.Machine.{State, Halted}
-use Rattle.lt_isa.specs.Shape.{IsShaped}
-use Rattle.lt_isa.specs.Step.{Faults, step}
-use Rattle.lt_isa.specs.Trace.{trace_from, final_from, seen_at, HaltsAt}
+use Rattle.lt_isa.specs.Prelude.{Parts, IsInRange, State, Halted, IsShaped, Faults, step, trace_from, final_from, seen_at, HaltsAt}
 use Rattle.lt_isa.proofs.Runs.{trace_from-past, trace_from-faults, final_from-past, final_from-faults}
 use Rattle.lt_isa.proofs.Ends.{spent-from_no_halt, trace_halted, final_halted, final_shaped}
-use Rattle.processor.specs.declared.ends.End.TheVariants as end
-use Rattle.processor.specs.Ends.{EndsAs}
-use Rattle.processor.specs.Joining.{RunsJoin}
+use Rattle.processor.specs.Prelude.{EndsAs, RunsJoin}
 use Rattle.processor.proofs.Joining.{runs_join}
-use Rattle.bus_arbiter.specs.Cores.{Core, LeftAt, LeftIf, OnItsWay, OnItsWayIf, RanTo, StoppedBy, end_as, shown_if, shows_to, trace_to}
-use Rattle.bus_arbiter.specs.Transfers.{Transfer, transfers_of}
+use Rattle.bus_arbiter.specs.Prelude.{Core, LeftAt, LeftIf, OnItsWay, OnItsWayIf, RanTo, StoppedBy, end_as, shown_if, shows_to, trace_to, Transfer, transfers_of}
 use Rattle.bus_arbiter.proofs.TransferLists.{in-none, transfers_of-append}
+use Rattle.processor.specs.declared.ends.End.TheVariants as end
 
 -- a run up to cycle 0 shows nothing and changes nothing
 pub nothing-shown : {B : Type 0} (k : ℕ) (c : Core B) → shows_to k c 0 ≡ []

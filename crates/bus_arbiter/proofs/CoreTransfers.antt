@@ -4,22 +4,16 @@ use Rattle.std.specs.Prelude.{ℤ}
 use Rattle.std.proofs.lemmas.List.{append-nil}
 use Rattle.std.proofs.lemmas.List.Elements.{Contains-append_cases}
 use Rattle.std.proofs.lemmas.Bool.{cases_lt, eqb-true}
-use Rattle.gr_word.specs.Words.{compared}
+use Rattle.gr_word.specs.Prelude.{compared}
 use Rattle.lt_isa.specs.declared.instructions.Instr.{Instr}
 use Rattle.lt_isa.specs.declared.instructions.Instr.TheVariants.{Nop, Halt, Li, Alu, Ldb, Stb, Idb, Ldw, Stw, Jmp, Br}
-use Rattle.lt_isa.specs.Object.{Parts, is_ram, is_eram, latency_of}
-use Rattle.lt_isa.specs.Ranges.{IsInRange, InstrFits}
-use Rattle.lt_isa.specs.Machine.{State, Observed, RamRead, RamWrite, EncRead, EncWrite, Oram, Halted, read_event, write_event, register, slot}
-use Rattle.lt_isa.specs.Shape.{IsShaped}
-use Rattle.lt_isa.specs.Step.{StepResult, Goes, Stops, Faults, executed, start_of, step, step_start}
-use Rattle.lt_isa.specs.Trace.{Stamped, seen_at, stamped, trace_from, final_from, Reaches, Here, Then}
-use Rattle.lt_isa.specs.Windows.{IsOpen}
+use Rattle.lt_isa.specs.Prelude.{Parts, is_ram, is_eram, latency_of, IsInRange, InstrFits, State, Observed, RamRead, RamWrite, EncRead, EncWrite, Oram, Halted, read_event, write_event, register, slot, IsShaped, StepResult, Goes, Stops, Faults, executed, start_of, step, step_start, Stamped, seen_at, stamped, trace_from, final_from, Reaches, Here, Then, IsOpen}
 use Rattle.lt_isa.proofs.Steps.{OnStepResult, on_goes, on_step, on_bound, on_choice, bound-fits, instruction-fits, step_start-at, step_start-least, step-later}
 use Rattle.lt_isa.proofs.Shapes.{step-shaped}
 use Rattle.lt_isa.proofs.Windows.{access_start-is}
 use Rattle.lt_isa.proofs.Runs.{trace_from-past, trace_from-goes, trace_from-stops, trace_from-faults}
 use Rattle.lt_isa.proofs.Ends.{IsSpent, HasHalted, run_ends}
-use Rattle.bus_arbiter.specs.Transfers.{Transfer, transfer_of, transfers_of, bank_used, IsDuring, Rise}
+use Rattle.bus_arbiter.specs.Prelude.{Transfer, transfer_of, transfers_of, bank_used, IsDuring, Rise}
 use Rattle.bus_arbiter.proofs.TransferLists.{in-none, in-one, is-transfer, rise-append, transfers_of-append, shown-as}
 
 -- ---- one step
@@ -64,10 +58,6 @@ accessed-at o fits cycle b e t exists is ends = record {
 executed-transfers : (o : Parts) → IsInRange o → (s : State) → IsShaped o s → (i : Instr)
     → InstrFits (length o.banks) i
     → OnStepResult (MayTransfer o (start_of o.profile i s.cycle)) (λ t. Unit {0}) (executed o s i)
-executed-transfers o fits s shaped Nop operands = tt
-executed-transfers o fits s shaped Halt operands = tt
-executed-transfers o fits s shaped (Li rd value) operands = tt
-executed-transfers o fits s shaped (Alu op rd ra rb) operands = tt
 executed-transfers o fits s shaped (Ldb k b r) operands =
     accessed-at o fits s.cycle b _ _ operands.1 (bank-read b _ _) refl
 executed-transfers o fits s shaped (Stb k) operands =
@@ -76,9 +66,9 @@ executed-transfers o fits s shaped (Stb k) operands =
 executed-transfers o fits s shaped (Idb rd k) operands = on_bound _ _ (slot s k) _ (λ b a words bound. tt)
 executed-transfers o fits s shaped (Ldw rd k ro) operands = on_bound _ _ (slot s k) _ (λ b a words bound. tt)
 executed-transfers o fits s shaped (Stw rs k ro) operands = on_bound _ _ (slot s k) _ (λ b a words bound. tt)
-executed-transfers o fits s shaped (Jmp offset) operands = tt
 executed-transfers o fits s shaped (Br cmp ra rb offset) operands =
     on_choice _ _ (compared cmp (register s ra) (register s rb)) _ _ tt tt
+executed-transfers o fits s shaped other operands = tt
 
 step-transfers : (o : Parts) → IsInRange o → (s : State) → IsShaped o s → (event : Option Observed) (t : State)
     → step o s ≡ Goes event t → MayTransfer o (step_start o s) event t

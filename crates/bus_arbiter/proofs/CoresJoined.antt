@@ -2,10 +2,7 @@
 use Rattle.std.proofs.Common.{◌≡◌, ℕ, zero, suc, List, [], ◌∷◌, length, map, Option, Some, None, refl, sym, ap, ap₂, subst, arith}
 use Rattle.std.specs.Prelude.{slice_get}
 use Rattle.bus_arbiter.specs.declared.shares.Share.{Share}
-use Rattle.bus_arbiter.specs.Cores.{AllStand, Core, trace_to, traces_to}
-use Rattle.bus_arbiter.specs.Laws.{Run, shown_to}
-use Rattle.bus_arbiter.specs.Shares.{IsPlan, share_at, share_of}
-use Rattle.bus_arbiter.specs.Transfers.{IsJoined, joined_of}
+use Rattle.bus_arbiter.specs.Prelude.{AllStand, Core, trace_to, traces_to, Run, shown_to, IsPlan, share_at, share_of, IsJoined, joined_of}
 use Rattle.bus_arbiter.proofs.JoinedLaws.{worked-out}
 
 abbrev pub run_of : {B : Type 0} → Core B → Run

@@ -3,11 +3,7 @@ use Rattle.std.proofs.Common.{◌≡◌, ℕ, ◌+◌, ◌<◌, ◌≤◌, List,
 use Rattle.std.specs.Prelude.{slice_get}
 use Rattle.std.proofs.lemmas.Option.{same_Some, slice_get_within}
 use Rattle.std.proofs.lemmas.Bool.{cases_eq}
-use Rattle.bus_arbiter.specs.Cores.{Core, LeftAt, shows_to}
-use Rattle.bus_arbiter.specs.Rounds.{Quiet}
-use Rattle.bus_arbiter.specs.Telling.{FailedAt}
-use Rattle.bus_arbiter.specs.Transfers.{Transfer}
-use Rattle.bus_arbiter.specs.Turns.{AllLeft, Turned}
+use Rattle.bus_arbiter.specs.Prelude.{Core, LeftAt, shows_to, Quiet, FailedAt, Transfer, AllLeft, Turned}
 use Rattle.bus_arbiter.proofs.Plays.{get-set_other, get-set_same, length-put}
 
 -- the first i cores have run up to cycle n, the others not yet

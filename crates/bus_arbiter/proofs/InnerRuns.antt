@@ -1,17 +1,11 @@
 -- What a run of a core's machine reports.
 use Rattle.std.proofs.Common.{◌≡◌, ℕ, List, ap, subst}
-use Rattle.lt_isa.specs.Object.{Parts}
-use Rattle.lt_isa.specs.Machine.{State}
-use Rattle.lt_isa.specs.Trace.{trace_from}
+use Rattle.lt_isa.specs.Prelude.{Parts, State, trace_from}
 use Rattle.banks.specs.declared.bank.Leaves.{Leaves}
-use Rattle.banks.specs.Accesses.{accesses_from}
-use Rattle.processor.specs.Ends.{Broke}
-use Rattle.processor.specs.ObliviousBanks.{paths_shown}
-use Rattle.processor.specs.Watching.{WatcherTold, run_shown}
+use Rattle.banks.specs.Prelude.{accesses_from}
+use Rattle.processor.specs.Prelude.{Broke, paths_shown, WatcherTold, run_shown}
 use Rattle.processor.proofs.TellingPaths.{events_in-with_paths}
-use Rattle.bus_arbiter.specs.Inner.{moves_of, torn_by}
-use Rattle.bus_arbiter.specs.Telling.{FailedAt}
-use Rattle.bus_arbiter.specs.Transfers.{Transfer, transfers_of}
+use Rattle.bus_arbiter.specs.Prelude.{moves_of, torn_by, FailedAt, Transfer, transfers_of}
 use Rattle.bus_arbiter.proofs.InnerTold.{fails-at}
 
 module _ {B : Type 0} (shows : B → List ℕ → List Leaves) (o : Parts) (s : State) (orams : List B) (n core : ℕ) where

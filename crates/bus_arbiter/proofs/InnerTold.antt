@@ -1,12 +1,8 @@
 -- What a machine's watcher hears in one call and in a whole run, as transfers of its core.
 use Rattle.std.proofs.Common.{◌≡◌, ℕ, List, [], ◌∷◌, ◌++◌, refl, sym, ap, ◌∙◌, subst}
-use Rattle.lt_isa.specs.Machine.{Observed, RamRead, RamWrite, EncRead, EncWrite, Oram, Halted}
-use Rattle.lt_isa.specs.Trace.{seen_at}
-use Rattle.processor.specs.Keeping.{events_in-append}
-use Rattle.processor.specs.Watching.{WatcherTold, AnEvent, APath, events_in}
-use Rattle.bus_arbiter.specs.Inner.{moves_of, torn_at, torn_by}
-use Rattle.bus_arbiter.specs.Telling.{FailedAt}
-use Rattle.bus_arbiter.specs.Transfers.{Transfer, moved_by, transfer_of, transfers_of}
+use Rattle.lt_isa.specs.Prelude.{Observed, RamRead, RamWrite, EncRead, EncWrite, Oram, Halted, seen_at}
+use Rattle.processor.specs.Prelude.{events_in-append, WatcherTold, AnEvent, APath, events_in}
+use Rattle.bus_arbiter.specs.Prelude.{moves_of, torn_at, torn_by, FailedAt, Transfer, moved_by, transfer_of, transfers_of}
 use Rattle.bus_arbiter.proofs.TransferLists.{transfers_of-append}
 
 -- ---- one call
@@ -31,12 +27,8 @@ halt-heard heard core at seen is none = subst heard (sym (ap (λ e. transfer_of 
 -- what tears a core's watcher is a transfer
 front-torn : (torn : Transfer → Type 0) (core at : ℕ) (event : Observed) → torn_at torn core at event
     → (transfer_of core at event ≡ moved_by core at event ∷ []) × torn (moved_by core at event)
-front-torn torn core at (RamRead block words) is = (refl, is)
-front-torn torn core at (RamWrite block words) is = (refl, is)
-front-torn torn core at (EncRead block) is = (refl, is)
-front-torn torn core at (EncWrite block) is = (refl, is)
-front-torn torn core at (Oram bank) is = (refl, is)
 front-torn torn core at Halted is = absurd is
+front-torn torn core at other is = (refl, is)
 
 -- a watcher that failed at something failed at a transfer
 pub fails-at : {W : Type 0} (hears : W → List Transfer → W → Type 0) (before now : W) (torn : Transfer → Type 0)

@@ -5,14 +5,10 @@ use Rattle.std.proofs.lemmas.List.{length-map, get_or-map}
 use Rattle.std.proofs.lemmas.List.Elements.{Contains-append_cases, Contains-append_left, Contains-append_right}
 use Rattle.std.proofs.lemmas.Option.{same_Some, slice_get_within, get_or_from_slice_get}
 use Rattle.std.proofs.lemmas.Bool.{cases_eq, cases_lt}
-use Rattle.lt_isa.specs.Object.{Parts}
-use Rattle.lt_isa.specs.Start.{trace}
-use Rattle.lt_isa.specs.Trace.{Stamped, seen_at}
+use Rattle.lt_isa.specs.Prelude.{Parts, trace, Stamped, seen_at}
 use Rattle.lt_isa.proofs.Cycles.{latency-least}
 use Rattle.bus_arbiter.specs.declared.shares.Share.{Share}
-use Rattle.bus_arbiter.specs.Laws.{AllAgree, AllOblivious, AreOnBus, NoneOverlap, Run, shown_to, traces_on}
-use Rattle.bus_arbiter.specs.Shares.{no_share, share_at, share_of}
-use Rattle.bus_arbiter.specs.Transfers.{IsDuring, IsJoined, IsTransferIn, Rise, Transfer, all_transfers, bank_used, ordered_transfers, inserted, joined_of, moved_by, of_core, transfers_of}
+use Rattle.bus_arbiter.specs.Prelude.{AllAgree, AllOblivious, AreOnBus, NoneOverlap, Run, shown_to, traces_on, no_share, share_at, share_of, IsDuring, IsJoined, IsTransferIn, Rise, Transfer, all_transfers, bank_used, ordered_transfers, inserted, joined_of, moved_by, of_core, transfers_of}
 use Rattle.bus_arbiter.proofs.CoreTransfers.{run-apart, run-moves, run-rises}
 use Rattle.bus_arbiter.proofs.Joining.{core-of}
 use Rattle.bus_arbiter.proofs.TransferLists.{has-shown, in-cases, in-here, in-none, in-there, of_core-has, of_core-in, rise-core, rise-same, shown-as}

@@ -5,21 +5,16 @@ use Rattle.std.proofs.lemmas.List.{append-nil, length-map, get_or-map}
 use Rattle.std.proofs.lemmas.List.Elements.{Contains-append_cases, Contains-append_left}
 use Rattle.std.proofs.lemmas.Option.{none-some, same_Some, slice_get_within, get_or_from_slice_get}
 use Rattle.std.proofs.lemmas.Bool.{cases_eq, cases_lt}
-use Rattle.lt_isa.specs.Ranges.{IsInRange}
-use Rattle.lt_isa.specs.Shape.{IsShaped}
-use Rattle.lt_isa.specs.Step.{Faults, step}
-use Rattle.lt_isa.specs.Trace.{seen_at, trace_from, final_from}
+use Rattle.lt_isa.specs.Prelude.{IsInRange, IsShaped, Faults, step, seen_at, trace_from, final_from}
 use Rattle.lt_isa.proofs.Runs.{trace_from-faults}
 use Rattle.lt_isa.proofs.Ends.{final_shaped, spent-from_no_halt}
-use Rattle.processor.specs.declared.ends.End.TheVariants as end
-use Rattle.processor.specs.Ends.{EndsAs}
-use Rattle.bus_arbiter.specs.Cores.{Core, LeftAt, LeftIf, NoneHalted, RanTo, end_as, shown_if, shows_to, trace_to, traces_to}
-use Rattle.bus_arbiter.specs.Rounds.{JoinedSoFar, Onward}
-use Rattle.bus_arbiter.specs.Transfers.{IsJoined, IsTransferIn, Rise, Transfer, of_core, transfers_of}
+use Rattle.processor.specs.Prelude.{EndsAs}
+use Rattle.bus_arbiter.specs.Prelude.{Core, LeftAt, LeftIf, NoneHalted, RanTo, end_as, shown_if, shows_to, trace_to, traces_to, JoinedSoFar, Onward, IsJoined, IsTransferIn, Rise, Transfer, of_core, transfers_of}
 use Rattle.bus_arbiter.proofs.TransferLists.{has-shown, in-none, of_core-append, of_core-has, of_core-in, rise-append, shown-as}
 use Rattle.bus_arbiter.proofs.CoreRuns.{both-leave, both-show, stays-at}
 use Rattle.bus_arbiter.proofs.CoreTransfers.{moves-below, run-moves, run-rises}
 use Rattle.bus_arbiter.proofs.Plays.{get-set_other, get-set_same, length-put, other-shows, own-shows}
+use Rattle.processor.specs.declared.ends.End.TheVariants as end
 
 -- ---- one core
 

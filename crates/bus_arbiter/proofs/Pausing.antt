@@ -6,16 +6,9 @@ use Rattle.std.proofs.lemmas.List.{append-nil}
 use Rattle.std.proofs.lemmas.List.Elements.{Contains-append_right}
 use Rattle.std.proofs.lemmas.Option.{same_Some, slice_get_within}
 use Rattle.std.proofs.lemmas.Bool.{cases_eq, cases_lt}
-use Rattle.lt_isa.specs.Ranges.{IsInRange}
-use Rattle.lt_isa.specs.Shape.{IsShaped}
-use Rattle.lt_isa.specs.Step.{step_start}
-use Rattle.lt_isa.specs.Trace.{HaltsAt}
-use Rattle.processor.specs.Ends.{EndsAs}
-use Rattle.processor.specs.Machines.{Running}
-use Rattle.processor.specs.Pauses.{PausesAt}
-use Rattle.bus_arbiter.specs.Cores.{Core, LeftAt, LeftIf, end_as, shown_if, shows_to, trace_to}
-use Rattle.bus_arbiter.specs.Rounds.{CorePaused, JoinedOn, JoinedSoFar, NoneBefore, StayJoined, StayUntil}
-use Rattle.bus_arbiter.specs.Transfers.{Transfer, transfers_of}
+use Rattle.lt_isa.specs.Prelude.{IsInRange, IsShaped, step_start, HaltsAt}
+use Rattle.processor.specs.Prelude.{EndsAs, Running, PausesAt}
+use Rattle.bus_arbiter.specs.Prelude.{Core, LeftAt, LeftIf, end_as, shown_if, shows_to, trace_to, CorePaused, JoinedOn, JoinedSoFar, NoneBefore, StayJoined, StayUntil, Transfer, transfers_of}
 use Rattle.bus_arbiter.proofs.CoreRuns.{both-show}
 use Rattle.bus_arbiter.proofs.CoreTransfers.{run-moves}
 use Rattle.bus_arbiter.proofs.Joining.{joins-later, joins-on, shown-live}

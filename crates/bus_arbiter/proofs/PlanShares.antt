@@ -4,7 +4,7 @@ use Rattle.std.proofs.lemmas.Bool.{cases_lt}
 use Rattle.std.proofs.Math.ListN.{get_or-append}
 use Rattle.std.proofs.Math.Seq.{get_or-append_seam}
 use Rattle.bus_arbiter.specs.declared.shares.Share.{Share}
-use Rattle.bus_arbiter.specs.Shares.{IsPlan, Meet, PlanTakes, ShareFits, end_of, no_share, share_at}
+use Rattle.bus_arbiter.specs.Prelude.{IsPlan, Meet, PlanTakes, ShareFits, end_of, no_share, share_at}
 
 -- ---- one share more
 

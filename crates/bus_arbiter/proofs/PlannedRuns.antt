@@ -2,17 +2,10 @@
 use Rattle.std.proofs.Common.{◌≡◌, ℕ, zero, suc, ◌<◌, ℤ, List, [], ◌∷◌, ◌++◌, length, map, Option, Some, None, refl, sym, ap, subst, arith}
 use Rattle.std.specs.Prelude.{slice_get}
 use Rattle.std.proofs.lemmas.Option.{same_Some}
-use Rattle.lt_isa.specs.Object.{Parts}
-use Rattle.lt_isa.specs.Ranges.{IsInRange}
-use Rattle.lt_isa.specs.Shape.{IsShaped}
-use Rattle.lt_isa.specs.Start.{start_state}
-use Rattle.lt_isa.specs.Trace.{Stamped}
+use Rattle.lt_isa.specs.Prelude.{Parts, IsInRange, IsShaped, start_state, Stamped}
 use Rattle.lt_isa.proofs.Starts.{IsShaped-start}
 use Rattle.bus_arbiter.specs.declared.shares.Share.{Share}
-use Rattle.bus_arbiter.specs.Laws.{AllFit, AreOnBus, NoneOverlap, Run, runs_of, shown_to, traces_on}
-use Rattle.bus_arbiter.specs.Refusals.{refusal}
-use Rattle.bus_arbiter.specs.Shares.{IsPlan, share_of}
-use Rattle.bus_arbiter.specs.Transfers.{IsJoined, Transfer}
+use Rattle.bus_arbiter.specs.Prelude.{AllFit, AreOnBus, NoneOverlap, Run, runs_of, shown_to, traces_on, refusal, IsPlan, share_of, IsJoined, Transfer}
 use Rattle.bus_arbiter.proofs.JoinedLaws.{none-overlap}
 use Rattle.bus_arbiter.proofs.PlanShares.{plan-more}
 use Rattle.bus_arbiter.proofs.Refusals.{takes}

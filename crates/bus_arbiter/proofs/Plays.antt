@@ -4,13 +4,9 @@ use Rattle.std.specs.Prelude.{slice_get, slice_set}
 use Rattle.std.proofs.lemmas.List.{append-nil}
 use Rattle.std.proofs.lemmas.Option.{same_Some, slice_get_within, slice_get-get_or}
 use Rattle.std.proofs.lemmas.Bool.{cases_eq, eq-eqb, ne_eqb}
-use Rattle.lt_isa.specs.Ranges.{IsInRange}
-use Rattle.lt_isa.specs.Shape.{IsShaped}
+use Rattle.lt_isa.specs.Prelude.{IsInRange, IsShaped}
 use Rattle.bus_arbiter.specs.declared.turns.Turn.{Turn}
-use Rattle.bus_arbiter.specs.Cores.{Core, LeftAt, OnItsWay, shown_if, shows_to, trace_to}
-use Rattle.bus_arbiter.specs.Telling.{FailedAt, HearsThen}
-use Rattle.bus_arbiter.specs.Transfers.{Transfer, of_core, transfers_of}
-use Rattle.bus_arbiter.specs.Turns.{AllOnTheirWay, Played, PlayFailed, TurnStopped, Turned, until}
+use Rattle.bus_arbiter.specs.Prelude.{Core, LeftAt, OnItsWay, shown_if, shows_to, trace_to, FailedAt, HearsThen, Transfer, of_core, transfers_of, AllOnTheirWay, Played, PlayFailed, TurnStopped, Turned, until}
 use Rattle.std.proofs.lemmas.List.Elements.{Contains-append_left}
 use Rattle.lt_isa.proofs.Ends.{trace_front}
 use Rattle.bus_arbiter.proofs.TransferLists.{in-none, of_core-all, of_core-append, of_core-none, shown-as, transfers_of-append}

@@ -5,8 +5,7 @@ use Rattle.std.proofs.lemmas.Bool.{and_parts, cases_lt, eq-eqb, eqb-true, ltb-tr
 use Rattle.bus_arbiter.specs.declared.shares.Share.{Share}
 use Rattle.bus_arbiter.specs.declared.errors.BusError.{BusError}
 use Rattle.bus_arbiter.specs.declared.errors.BusError.TheVariants.{NoWindow, OtherPeriod, TooLong, Overlap, Memory}
-use Rattle.bus_arbiter.specs.Refusals.{meets, of_overlap, of_period, or_then, refusal}
-use Rattle.bus_arbiter.specs.Shares.{EndsInPeriod, HasPeriodOf, HasWindow, IsApartFrom, Meet, PlanRefuses, PlanTakes, ShareFits, end_of, share_at}
+use Rattle.bus_arbiter.specs.Prelude.{meets, of_overlap, of_period, or_then, refusal, EndsInPeriod, HasPeriodOf, HasWindow, IsApartFrom, Meet, PlanRefuses, PlanTakes, ShareFits, end_of, share_at}
 
 -- ---- two reaches
 
@@ -168,17 +167,14 @@ module _ (plan : List Share) (s : Share) (all : EachFits plan) (fits : ShareFits
   one-cause NoWindow (OtherPeriod p) is so = absurd (so.0 is)
   one-cause NoWindow (TooLong e) is so = absurd (so.0 is)
   one-cause NoWindow (Overlap c) is so = absurd (so.0 is)
-  one-cause NoWindow Memory is so = absurd so
   one-cause (OtherPeriod p) NoWindow is so = absurd (is.0 so)
   one-cause (OtherPeriod p) (OtherPeriod q) is so = ap OtherPeriod (is.2 ∙ sym so.2)
   one-cause (OtherPeriod p) (TooLong e) is so = absurd (is.3 (so.1 is.1 ∙ sym is.2))
   one-cause (OtherPeriod p) (Overlap c) is so = absurd (is.3 (so.1 is.1 ∙ sym is.2))
-  one-cause (OtherPeriod p) Memory is so = absurd so
   one-cause (TooLong e) NoWindow is so = absurd (is.0 so)
   one-cause (TooLong e) (OtherPeriod p) is so = absurd (so.3 (is.1 so.1 ∙ sym so.2))
   one-cause (TooLong e) (TooLong f) is so = ap TooLong (is.2 ∙ sym so.2)
   one-cause (TooLong e) (Overlap c) is so = absurd (omega (arith, is.2, is.3, so.2))
-  one-cause (TooLong e) Memory is so = absurd so
   one-cause (Overlap c) NoWindow is so = absurd (is.0 so)
   one-cause (Overlap c) (OtherPeriod p) is so = absurd (so.3 (is.1 so.1 ∙ sym so.2))
   one-cause (Overlap c) (TooLong e) is so = absurd (omega (arith, so.2, so.3, is.2))
@@ -192,8 +188,8 @@ module _ (plan : List Share) (s : Share) (all : EachFits plan) (fits : ShareFits
       (λ back. omega (arith, past, back))
       (cases_lt d c))
       (cases_lt c d))
-  one-cause (Overlap c) Memory is so = absurd so
   one-cause Memory other is so = absurd is
+  one-cause other Memory is so = absurd so
 
   takes-by : (found : Option BusError) → Judged plan s found → PlanTakes plan s → found ≡ None
   takes-by None is takes = refl

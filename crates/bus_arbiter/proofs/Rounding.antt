@@ -6,16 +6,10 @@ use Rattle.std.proofs.lemmas.List.{append-nil}
 use Rattle.std.proofs.lemmas.List.Elements.{Contains-append_cases, Contains-append_left, Contains-append_right}
 use Rattle.std.proofs.lemmas.Option.{same_Some, slice_get_within}
 use Rattle.std.proofs.lemmas.Bool.{cases_eq, cases_lt}
-use Rattle.lt_isa.specs.Ranges.{IsInRange}
-use Rattle.lt_isa.specs.Shape.{IsShaped}
+use Rattle.lt_isa.specs.Prelude.{IsInRange, IsShaped}
 use Rattle.lt_isa.proofs.Ends.{final_shaped}
 use Rattle.bus_arbiter.specs.declared.shares.Share.{Share}
-use Rattle.bus_arbiter.specs.Cores.{AllStand, Core, LeftAt, LeftIf, NoneHalted, RanTo, shows_to, trace_to, traces_to, shown_if}
-use Rattle.bus_arbiter.specs.Rounds.{AllHalted, Between, FailOn, GoOn, IsLive, IsNext, JoinFailed, JoinedOn, JoinedSoFar, NoneNext, Quiet}
-use Rattle.bus_arbiter.specs.Shares.{IsPlan, share_at}
-use Rattle.bus_arbiter.specs.Telling.{FailedAt, HearsThen}
-use Rattle.bus_arbiter.specs.Transfers.{IsJoined, Rise, Transfer, of_core, transfers_of}
-use Rattle.bus_arbiter.specs.Turns.{AllLeft, Turned}
+use Rattle.bus_arbiter.specs.Prelude.{AllStand, Core, LeftAt, LeftIf, NoneHalted, RanTo, shows_to, trace_to, traces_to, shown_if, AllHalted, Between, FailOn, GoOn, IsLive, IsNext, JoinFailed, JoinedOn, JoinedSoFar, NoneNext, Quiet, IsPlan, share_at, FailedAt, HearsThen, IsJoined, Rise, Transfer, of_core, transfers_of, AllLeft, Turned}
 use Rattle.bus_arbiter.proofs.BusSteps.{all-stood}
 use Rattle.bus_arbiter.proofs.CoreTransfers.{moves-below, run-moves, run-rises}
 use Rattle.bus_arbiter.proofs.Joining.{core-of, in-traces, joined-all, joins-first, joins-later, joins-on, of-traces, shown-live}

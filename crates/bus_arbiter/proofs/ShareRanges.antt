@@ -1,11 +1,9 @@
 -- The share of an object in range fits a plan's ranges.
 use Rattle.std.proofs.Common.{ℕ, suc, ◌<◌, ◌≤◌, max, List, [], ◌∷◌, length, map, get_or, arith}
 use Rattle.std.specs.Prelude.{fold}
-use Rattle.lt_isa.specs.Limits.{most_latency}
-use Rattle.lt_isa.specs.Object.{Parts, no_bank}
-use Rattle.lt_isa.specs.Ranges.{IsInRange}
+use Rattle.lt_isa.specs.Prelude.{most_latency, Parts, no_bank, IsInRange}
 use Rattle.lt_isa.proofs.Cycles.{bank-fits, latency-greatest, latency-least}
-use Rattle.bus_arbiter.specs.Shares.{ShareFits, share_of}
+use Rattle.bus_arbiter.specs.Prelude.{ShareFits, share_of}
 
 fold-most : {X : Type 0} (f : X → ℕ) (xs : List X) (d : X) (a most : ℕ) → a ≤ most
     → ((i : ℕ) → i < length xs → f (get_or xs i d) ≤ most) → fold max a (map f xs) ≤ most

@@ -3,10 +3,7 @@ use Rattle.std.proofs.Common.{◌≡◌, ℕ, ◌≤◌, List, [], ◌++◌, Som
 use Rattle.std.specs.Prelude.{slice_get}
 use Rattle.std.proofs.lemmas.Option.{same_Some, slice_get_within}
 use Rattle.std.proofs.lemmas.Bool.{cases_eq}
-use Rattle.bus_arbiter.specs.Cores.{Core, OnItsWay}
-use Rattle.bus_arbiter.specs.Rounds.{GoOn, JoinedOn, StopOn}
-use Rattle.bus_arbiter.specs.Transfers.{Transfer}
-use Rattle.bus_arbiter.specs.Turns.{AllOnTheirWay, TurnStopped}
+use Rattle.bus_arbiter.specs.Prelude.{Core, OnItsWay, GoOn, JoinedOn, StopOn, Transfer, AllOnTheirWay, TurnStopped}
 use Rattle.bus_arbiter.proofs.CoreRuns.{both-way, left-way}
 use Rattle.bus_arbiter.proofs.Plays.{get-set_other, get-set_same, length-put}
 

@@ -3,9 +3,8 @@ use Rattle.std.proofs.Common.{◌≡◌, ◌≢◌, ℕ, zero, suc, ◌<◌, Boo
 use Rattle.std.proofs.lemmas.List.{append-nil}
 use Rattle.std.proofs.lemmas.List.Elements.{Contains-append_cases, Contains-append_left, Contains-append_right}
 use Rattle.std.proofs.lemmas.Bool.{eq-eqb, ne_eqb, cases_eq}
-use Rattle.lt_isa.specs.Machine.{Observed, RamRead, RamWrite, EncRead, EncWrite, Oram, Halted}
-use Rattle.lt_isa.specs.Trace.{Stamped, seen_at}
-use Rattle.bus_arbiter.specs.Transfers.{Transfer, moved_by, transfer_of, transfers_of, of_core, Rise}
+use Rattle.lt_isa.specs.Prelude.{Observed, RamRead, RamWrite, EncRead, EncWrite, Oram, Halted, Stamped, seen_at}
+use Rattle.bus_arbiter.specs.Prelude.{Transfer, moved_by, transfer_of, transfers_of, of_core, Rise}
 
 -- ---- members
 
@@ -40,20 +39,12 @@ transfers_of-append k (e ∷ es) fs =
 -- the transfer that an event is
 pub is-transfer : (k at : ℕ) (event : Observed) (t : Transfer) → Contains (transfer_of k at event) t
     → (moved_by k at event ≡ t) × (event ≢ Halted)
-is-transfer k at (RamRead block words) t c = (in-one _ t c, λ e. cc)
-is-transfer k at (RamWrite block words) t c = (in-one _ t c, λ e. cc)
-is-transfer k at (EncRead block) t c = (in-one _ t c, λ e. cc)
-is-transfer k at (EncWrite block) t c = (in-one _ t c, λ e. cc)
-is-transfer k at (Oram bank) t c = (in-one _ t c, λ e. cc)
 is-transfer k at Halted t c = absurd (in-none t c)
+is-transfer k at other t c = (in-one _ t c, λ e. cc)
 
 pub has-transfer : (k at : ℕ) (event : Observed) → event ≢ Halted → Contains (transfer_of k at event) (moved_by k at event)
-has-transfer k at (RamRead block words) other = in-here _ []
-has-transfer k at (RamWrite block words) other = in-here _ []
-has-transfer k at (EncRead block) other = in-here _ []
-has-transfer k at (EncWrite block) other = in-here _ []
-has-transfer k at (Oram bank) other = in-here _ []
 has-transfer k at Halted other = absurd (other refl)
+has-transfer k at rest other = in-here _ []
 
 -- a core's transfers are its events that aren't a halt
 pub record IsShownAs (k : ℕ) (es : List Stamped) (t : Transfer) : Type 0 where

@@ -3,15 +3,11 @@ use Rattle.std.proofs.Common.{◌≡◌, ◌≢◌, ℕ, ◌+◌, ◌-◌, ◌*�
 use Rattle.std.proofs.lemmas.Bool.{cases_lt, cases_eq}
 use Rattle.std.proofs.lemmas.Option.{slice_get_within}
 use Rattle.std.proofs.lemmas.Nat.{mod-mul-add, mod_below, div-add-mod'}
-use Rattle.lt_isa.specs.Object.{Parts, latency_of}
-use Rattle.lt_isa.specs.Windows.{IsOpen}
+use Rattle.lt_isa.specs.Prelude.{Parts, latency_of, IsOpen}
 use Rattle.lt_isa.proofs.Cycles.{latency-greatest}
 use Rattle.lt_isa.proofs.Windows.{periods}
 use Rattle.bus_arbiter.specs.declared.shares.Share.{Share}
-use Rattle.bus_arbiter.specs.Cores.{Core}
-use Rattle.bus_arbiter.specs.Shares.{InReach, IsPlan, share_at, share_of}
-use Rattle.bus_arbiter.specs.Rounds.{Between, IsLive, IsNext}
-use Rattle.bus_arbiter.specs.Transfers.{IsDuring, Transfer, bank_used}
+use Rattle.bus_arbiter.specs.Prelude.{Core, InReach, IsPlan, share_at, share_of, Between, IsLive, IsNext, IsDuring, Transfer, bank_used}
 use Rattle.bus_arbiter.proofs.CoreTransfers.{Moves}
 
 -- where a cycle is in the period that it is of

@@ -6,10 +6,10 @@ use Rattle.lt_isa.specs.Trace.{HaltsAt, Stamped, trace_from, final_from}
 use Rattle.processor.specs.Machines.{Running}
 use Rattle.processor.specs.Ends.{EndsAs}
 use Rattle.processor.specs.declared.ends.End.{End}
-use Rattle.processor.specs.declared.ends.End.TheVariants as end
 use Rattle.bus_arbiter.specs.declared.shares.Share.{Share}
 use Rattle.bus_arbiter.specs.Shares.{share_of, share_at}
 use Rattle.bus_arbiter.specs.Transfers.{Transfer, transfers_of}
+use Rattle.processor.specs.declared.ends.End.TheVariants as end
 
 -- a machine, and the stamp of its halt where it was run that far
 pub record Core (B : Type 0) : Type 0 where

@@ -9,3 +9,4 @@ pub mod Rounds
 pub mod Laws
 pub use Rattle.processor.specs.Machines
 pub use Rattle.processor.specs.Ends
+pub mod Prelude

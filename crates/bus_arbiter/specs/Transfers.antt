@@ -34,12 +34,10 @@ of_core core (t ∷ ts) = if t.core == core then t ∷ of_core core ts else of_c
 
 -- the bank that a transfer goes to or comes from
 abbrev pub bank_used : Observed → ℕ
-bank_used (RamRead block words) = 0
-bank_used (RamWrite block words) = 0
 bank_used (EncRead block) = 1
 bank_used (EncWrite block) = 1
 bank_used (Oram bank) = bank
-bank_used Halted = 0
+bank_used other = 0
 
 -- the transfer of a core with this object is on the bus in this cycle
 pub record IsDuring (o : Parts) (t : Transfer) (cycle : ℕ) : Type 0 where

@@ -1,6 +1,6 @@
 ghost use Rattle.std.specs.Prelude.{◌≡◌, ◌≢◌, ◌<◌, ◌≤◌, ◌+◌, ◌-◌, ◌^◌, ◌++◌, ◌∷◌, [], ℕ, All, IfOk, IsTrue, List, None, OnErr, OnOk, Some, false, is_none, is_ok, length, map, slice_get, slice_set, true};
-ghost use Rattle.gr_base.specs.Counts.{Rose};
-ghost use Rattle.lt_isa.specs.Outputs.{outputs};
+ghost use Rattle.gr_base.specs.Prelude.{Rose};
+ghost use Rattle.lt_isa.specs.Prelude.{outputs};
 ghost use Rattle.bus_arbiter.specs.Cores.{AllStand, Core, NoneHalted, shows_to};
 ghost use Rattle.bus_arbiter.specs.Rounds.{CorePaused};
 ghost use Rattle.bus_arbiter.specs.Shares.{IsPlan, share_at, share_of};

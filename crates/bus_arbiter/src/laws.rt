@@ -1,7 +1,5 @@
 ghost use Rattle.std.specs.Prelude.{◌≡◌, ◌↔◌, ◌<◌, ◌++◌, ◌∷◌, [], ℕ, ℤ, List, None, Some, length, map, slice_get};
-ghost use Rattle.lt_isa.specs.Object.{Parts};
-ghost use Rattle.lt_isa.specs.Ranges.{IsInRange};
-ghost use Rattle.lt_isa.specs.Trace.{Stamped};
+ghost use Rattle.lt_isa.specs.Prelude.{Parts, IsInRange, Stamped};
 ghost use Rattle.bus_arbiter.specs.Laws.{AllAgree, AllFit, AllOblivious, AreOnBus, NoneOverlap, Run, runs_of, shown_to, traces_on};
 ghost use Rattle.bus_arbiter.specs.Refusals.{refusal};
 ghost use Rattle.bus_arbiter.specs.Shares.{IsPlan, PlanRefuses, PlanTakes, ShareFits, share_of};

@@ -1,8 +1,7 @@
 -- The files after an ending, by the root of the work.
 use Rattle.std.proofs.Common.{◌≡◌, ◌≢◌, ◌⊎◌, inl, inr, ℕ, List, Option, Some, refl, subst}
-use Rattle.call_steps.specs.Questions.{Answer, IsRight}
-use Rattle.call_steps.specs.Work.{Work, Ends, Writes, Reads, Asks, Ending, IsUnread, IsTooLong, IsVerdict, IsWritten, MayEnd, Ended, Wrote, Missing, TooLong, Found, Answered, said_at}
-use Rattle.call_laws.specs.Promises.{IsDone}
+use Rattle.call_steps.specs.Prelude.{Answer, IsRight, Work, Ends, Writes, Reads, Asks, Ending, IsUnread, IsTooLong, IsVerdict, IsWritten, MayEnd, Ended, Wrote, Missing, TooLong, Found, Answered, said_at}
+use Rattle.call_laws.specs.Prelude.{IsDone}
 
 abbrev pub OfWork : (List ℕ → Option (List ℕ) → Type 0) → Work → Ending → Type 0
 OfWork G (Ends seen verdict) ending = ending ≡ IsVerdict seen verdict

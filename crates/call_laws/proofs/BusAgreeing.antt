@@ -1,25 +1,15 @@
 -- What `bus` says is the same for inputs that agree.
 use Rattle.std.proofs.Common.{◌≡◌, ℕ, ℤ, List, [], ◌∷◌, Option, Some, None, refl, sym, ap, ap₂, ◌∙◌, subst, ⊎_elim}
 use Rattle.std.proofs.lemmas.List.Elements.{Contains-append_cases}
-use Rattle.lt_isa.specs.Machine.{Halted}
-use Rattle.lt_isa.specs.Object.{Parts}
-use Rattle.lt_isa.specs.Ranges.{IsInRange}
-use Rattle.lt_isa.specs.Start.{FitsObject, start_state, trace}
-use Rattle.lt_isa.specs.Step.{step_start}
-use Rattle.lt_isa.specs.Trace.{HaltsAt, seen_at, stamped}
+use Rattle.lt_isa.specs.Prelude.{Halted, Parts, IsInRange, FitsObject, start_state, trace, step_start, HaltsAt, seen_at, stamped}
 use Rattle.lt_isa.proofs.Ends.{HasHalted, halted-from_halt, reaches-no_halt, stamped-halt}
 use Rattle.lt_isa.proofs.Starts.{IsShaped-start}
-use Rattle.bus_arbiter.specs.Laws.{AllFit, traces_on}
-use Rattle.bus_arbiter.specs.Transfers.{IsJoined, Transfer}
+use Rattle.bus_arbiter.specs.Prelude.{AllFit, traces_on, IsJoined, Transfer}
 use Rattle.bus_arbiter.proofs.JoinedLaws.{agreeing, one-list}
 use Rattle.call_replies.specs.declared.replies.Verdict.TheVariants.{Shared}
-use Rattle.machine_verbs.specs.Bus.{all_halted, with_halts}
-use Rattle.call_steps.specs.Questions.{WhatIsJoined}
-use Rattle.call_laws.specs.BusAgrees.{BusAgrees}
-use Rattle.call_steps.specs.Runs.{HaltOf}
-use Rattle.machine_verbs.specs.Sharing.{AreHalts}
-use Rattle.call_steps.specs.Showing.{bus_seen}
-use Rattle.call_steps.specs.Work.{Asks, Ending, Ends, Holds, IsVerdict, MayEnd, Work, said_at}
+use Rattle.machine_verbs.specs.Prelude.{all_halted, with_halts, AreHalts}
+use Rattle.call_steps.specs.Prelude.{WhatIsJoined, HaltOf, bus_seen, Asks, Ending, Ends, Holds, IsVerdict, MayEnd, Work, said_at}
+use Rattle.call_laws.specs.Prelude.{BusAgrees}
 use Rattle.call_laws.proofs.Behind.{behind-it}
 
 -- ---- a run has one halt at most

@@ -1,11 +1,11 @@
 -- A program that is made of a file with procedures does what the file's calls mean.
 use Rattle.std.proofs.Common.{Bool, true, false, ℕ, List, subst}
-use Rattle.gr_word.specs.Fitting.{FitsWants}
-use Rattle.src_tree.specs.Trees.{Source}
-use Rattle.flow_types.specs.Wants.{declared_wants}
+use Rattle.gr_word.specs.Prelude.{FitsWants}
+use Rattle.src_tree.specs.Prelude.{Source}
+use Rattle.flow_types.specs.Prelude.{declared_wants}
 use Rattle.src_procs.proofs.RoomForInputs.{room_for}
-use Rattle.call_laws.specs.Calls.{CallsAsMeant, MeansItsCalls}
-use Rattle.call_steps.specs.Sources.{Spells}
+use Rattle.call_laws.specs.Prelude.{CallsAsMeant, MeansItsCalls}
+use Rattle.call_steps.specs.Prelude.{Spells}
 
 pub calls-as-meant : CallsAsMeant
 calls-as-meant text p spells store turns fits =

@@ -1,17 +1,13 @@
 -- What is written by a compilation that is done.
 use Rattle.std.proofs.Common.{◌≡◌, ◌≢◌, inl, inr, Bool, ℕ, ◌<◌, List, Option, Some, None, Result, Ok, Err, sym, ap, ◌∙◌, subst, arith}
 use Rattle.std.specs.FinMap.{get}
-use Rattle.gr_outside.specs.Shelf.{Files}
+use Rattle.gr_outside.specs.Prelude.{Files}
 use Rattle.call_steps.specs.declared.targets.Target.{Target}
-use Rattle.src_tree.specs.Trees.{Source}
+use Rattle.src_tree.specs.Prelude.{Source}
 use Rattle.call_replies.specs.declared.source_faults.SourceFault.{SourceFault}
-use Rattle.call_replies.specs.Texts.{Said}
-use Rattle.call_steps.specs.Sources.{SpellsTyped}
-use Rattle.call_steps.specs.Compile.{compile_work, compiles_to, on_compiled}
-use Rattle.call_steps.specs.Questions.{IsRight, WhichCompiled}
-use Rattle.call_steps.specs.Work.{Work, Ending, MayEnd, Holds, said_at, files_at}
-use Rattle.call_steps.specs.Outside.{Outside, Explains}
-use Rattle.call_laws.specs.Promises.{Answers, NoAnswer, AnswersSo, IsCompiledFile}
+use Rattle.call_replies.specs.Prelude.{Said}
+use Rattle.call_steps.specs.Prelude.{SpellsTyped, compile_work, compiles_to, on_compiled, IsRight, WhichCompiled, Work, Ending, MayEnd, Holds, said_at, files_at, Outside, Explains}
+use Rattle.call_laws.specs.Prelude.{Answers, NoAnswer, AnswersSo, IsCompiledFile}
 use Rattle.call_laws.proofs.Calls.{means-its-calls}
 use Rattle.call_laws.proofs.Behind.{behind-it, not-done}
 use Rattle.call_laws.proofs.DoneWork.{programmed-on}

@@ -2,13 +2,11 @@
 use Rattle.std.proofs.Common.{ℕ, List, sym, ◌∙◌, subst}
 use Rattle.object_file.proofs.ObjectLaws.{spelling-injective}
 use Rattle.call_steps.specs.declared.targets.Target.{Target}
-use Rattle.src_tree.specs.Trees.{Source}
-use Rattle.src_tree.specs.Limits.{IsWithinLimits}
-use Rattle.src_tree.specs.Typing.{IsTyped}
+use Rattle.src_tree.specs.Prelude.{Source, IsWithinLimits, IsTyped}
 use Rattle.lt_checker.proofs.Soundness.{accepted_is_oblivious}
 use Rattle.code_gen.proofs.AgreeingStores.{planned-inputs_agree}
-use Rattle.call_steps.specs.Compiled.{IsCompiledTo, plan_for}
-use Rattle.call_laws.specs.CompiledRuns.{CompiledRuns, RunsAsMeant}
+use Rattle.call_steps.specs.Prelude.{IsCompiledTo, plan_for}
+use Rattle.call_laws.specs.Prelude.{CompiledRuns, RunsAsMeant}
 use Rattle.call_laws.proofs.OnTarget.{target-sound}
 
 -- the object that was compiled

@@ -6,36 +6,27 @@ use Rattle.std.proofs.lemmas.Bool.{cases_lt}
 use Rattle.std.proofs.lemmas.List.{length-map}
 use Rattle.gr_word.specs.declared.variables.Want.{Want}
 use Rattle.call_steps.specs.declared.targets.Target.{Target}
-use Rattle.lt_isa.specs.Object.{Parts}
-use Rattle.lt_isa.specs.Outputs.{outputs}
-use Rattle.lt_isa.specs.Runs.{Halts}
-use Rattle.lt_isa.specs.Shape.{IsShaped}
-use Rattle.lt_isa.specs.Start.{FitsObject, start_state, final, wants_of}
+use Rattle.lt_isa.specs.Prelude.{Parts, outputs, Halts, IsShaped, FitsObject, start_state, final, wants_of}
 use Rattle.lt_isa.proofs.Ends.{final_halted}
 use Rattle.lt_isa.proofs.Starts.{IsShaped-start}
-use Rattle.lt_isa.proofs.Variables as symbols
 use Rattle.object_file.proofs.ObjectLaws.{spelling-injective}
-use Rattle.run_data.specs.InputsOf.{json_of, inputs_of}
-use Rattle.run_data.specs.OutputText.{output_of}
+use Rattle.run_data.specs.Prelude.{json_of, inputs_of, output_of}
 use Rattle.run_data.proofs.FaultOrder.{inputs_permuted}
 use Rattle.run_data.proofs.MemberOrder.{output_permuted}
 use Rattle.run_data.proofs.ReadWords.{inputs_fit}
 use Rattle.run_data.proofs.Shown.{fitting_length}
-use Rattle.src_tree.specs.Limits.{IsWithinLimits}
-use Rattle.src_tree.specs.Meaning.{Store, meaning}
-use Rattle.src_tree.specs.Trees.{Source}
-use Rattle.src_tree.specs.Typing.{IsTyped}
+use Rattle.src_tree.specs.Prelude.{IsWithinLimits, Store, meaning, Source, IsTyped}
 use Rattle.src_tree.proofs.StoreLengths.{length-meaning}
-use Rattle.flow_types.specs.Wants.{declared_want, declared_wants}
+use Rattle.flow_types.specs.Prelude.{declared_want, declared_wants}
 use Rattle.flow_types.proofs.Distinct.{wants_are_variables}
-use Rattle.stretches.specs.Standing.{greatest_costs}
-use Rattle.compiled_objects.specs.Implements.{by_name}
+use Rattle.stretches.specs.Prelude.{greatest_costs}
+use Rattle.compiled_objects.specs.Prelude.{by_name}
 use Rattle.code_gen.proofs.WantedInputs.{planned-inputs_wanted}
 use Rattle.code_gen.proofs.WantsInOrder.{planned-wants_permuted, wants-differ, words_named, store-named}
-use Rattle.call_steps.specs.Compiled.{IsCompiledTo, plan_for}
-use Rattle.call_laws.specs.CompiledRuns.{IsStoreOf}
-use Rattle.call_laws.specs.CompiledTexts.{TextsAsMeant, CompiledTexts}
+use Rattle.call_steps.specs.Prelude.{IsCompiledTo, plan_for}
+use Rattle.call_laws.specs.Prelude.{IsStoreOf, TextsAsMeant, CompiledTexts}
 use Rattle.call_laws.proofs.OnTarget.{target-sound}
+use Rattle.lt_isa.proofs.Variables as symbols
 
 ok-same : {X E : Type 0} (x y : X) → ◌≡◌ {A = Result X E} (Ok x) (Ok y) → x ≡ y
 ok-same x y e = cc

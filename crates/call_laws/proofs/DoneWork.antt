@@ -1,26 +1,21 @@
 -- What a finished work has read and asked: files that exist, and results that aren't faults.
 use Rattle.std.proofs.Common.{◌≡◌, ◌≢◌, inl, inr, ℕ, ℤ, Bool, List, Option, Some, None, Result, Ok, Err, refl, subst, arith}
 use Rattle.std.specs.FinMap.{get}
-use Rattle.gr_outside.specs.Shelf.{Files}
+use Rattle.gr_outside.specs.Prelude.{Files}
 use Rattle.gr_word.specs.declared.variables.Want.{Want}
-use Rattle.lt_isa.specs.Object.{Parts}
+use Rattle.lt_isa.specs.Prelude.{Parts}
 use Rattle.lt_checker.proofs.Soundness.{accepted_is_oblivious}
 use Rattle.path_oram.proofs.AlikeLeaves.{leaves_alike}
-use Rattle.src_tree.specs.Trees.{Source}
-use Rattle.trace_patterns.specs.Accepts.{Accepts}
+use Rattle.src_tree.specs.Prelude.{Source}
+use Rattle.trace_patterns.specs.Prelude.{Accepts}
 use Rattle.trace_patterns.specs.declared.reasons.Reason.{Reason}
 use Rattle.bus_arbiter.specs.declared.errors.BusError.{BusError}
 use Rattle.call_replies.specs.declared.replies.Verdict.{Verdict}
 use Rattle.call_replies.specs.declared.replies.Verdict.TheVariants.{BadInput, BadSource, Malformed}
-use Rattle.machine_verbs.specs.Bus.{on_plan}
-use Rattle.call_laws.specs.Headline.{HoldsInputs}
-use Rattle.call_steps.specs.Objects.{SpellsObject, object_limit}
-use Rattle.call_laws.specs.Promises.{IsDone, IsSafe}
-use Rattle.call_steps.specs.Questions.{IsRight, WhetherAccepted, WhichInputs, WhichObject, WhichSource}
-use Rattle.call_steps.specs.Sources.{SpellsTyped, source_limit}
-use Rattle.call_steps.specs.Steps.{input_limit, on_judged, or_ends, with_accepted, with_object, with_source, with_variables}
-use Rattle.call_replies.specs.Texts.{verdict_status}
-use Rattle.call_steps.specs.Work.{Asks, Ending, Holds, MayEnd, Reads, Work, said_at}
+use Rattle.machine_verbs.specs.Prelude.{on_plan}
+use Rattle.call_laws.specs.Prelude.{HoldsInputs, IsDone, IsSafe}
+use Rattle.call_steps.specs.Prelude.{SpellsObject, object_limit, IsRight, WhetherAccepted, WhichInputs, WhichObject, WhichSource, SpellsTyped, source_limit, input_limit, on_judged, or_ends, with_accepted, with_object, with_source, with_variables, Asks, Ending, Holds, MayEnd, Reads, Work, said_at}
+use Rattle.call_replies.specs.Prelude.{verdict_status}
 use Rattle.call_laws.proofs.Behind.{behind-it, not-done}
 
 -- the file encodes an object, and the rest of the work ends so with it

@@ -2,8 +2,7 @@
 use Rattle.std.proofs.Common.{◌≡◌, ◌⊎◌, inl, inr, Bool, true, false, List, [], ◌∷◌, codes, refl, sym, ◌∙◌, subst, ⊎_elim}
 use Rattle.std.specs.Str.{bytes_eq}
 use Rattle.std.proofs.lemmas.Slice.Eq.{bytes_eq-Decides}
-use Rattle.command_words.specs.CommandLines.{IsAmong, Text}
-use Rattle.command_words.specs.WordsAsk.{verb_names}
+use Rattle.command_words.specs.Prelude.{IsAmong, Text, verb_names}
 
 either : (x y : Text) → (x ≡ y) ⊎ (x ≡ y → ⊥)
 either x y = by (bytes_eq x y) refl

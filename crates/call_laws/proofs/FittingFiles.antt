@@ -1,29 +1,25 @@
 -- The program of a file with procedures has names and numbers in their ranges.
 use Rattle.std.proofs.Common.{ℕ, ◌+◌, ◌≤◌, ◌^◌, Bool, true, false, List, [], ◌∷◌, ◌++◌, length, reverse, sym, subst, arith}
 use Rattle.std.specs.Prelude.{All, IsTrue, bytes_eq, if◌then◌else◌}
-use mathlib.Core.List.{reverse-cons}
 use Rattle.std.proofs.lemmas.List.Elements.{All-append, All-cons, All-nil}
-use Rattle.gr_word.specs.Names.{is_name}
+use Rattle.gr_word.specs.Prelude.{is_name}
 use Rattle.gr_word.specs.declared.variables.Label.{Label}
 use Rattle.src_lexer.specs.declared.tokens.TokenKind.{TokenKind}
-use Rattle.src_lexer.specs.declared.tokens.TokenKind.TheVariants as kind
 use Rattle.src_tree.specs.declared.trees.Decl.{Decl}
-use Rattle.src_tree.specs.Trees as plain
-use Rattle.src_tree.specs.Trees.{Tree, Number, Variable, Element, Operation}
-use Rattle.src_parser.specs.Grammar.{Limits}
-use Rattle.src_procs.specs.Trees.{Statement, SetVariable, SetElement, Choice, Loop, Call, Block, Nothing, Then, Parameter, OfValue, OfVariable, Procedure, File}
-use Rattle.src_procs.specs.Frames.{naming_all, new_labels, new_values}
-use Rattle.src_procs.specs.Inlined.{Inlined, Inlines, Renaming, added, assigned, blocks_joined, inlined, inlined_all, inlined_body, inlined_call, inlined_file, inlines_of, kept_name, new_name, no_name, renamed}
-use Rattle.src_procs.specs.CallCauses.{IsFirstCallFault}
+use Rattle.src_tree.specs.Prelude.{Tree, Number, Variable, Element, Operation}
+use Rattle.src_parser.specs.Prelude.{Limits}
+use Rattle.src_procs.specs.Prelude.{Statement, SetVariable, SetElement, Choice, Loop, Call, Block, Nothing, Then, Parameter, OfValue, OfVariable, Procedure, File, naming_all, new_labels, new_values, Inlined, Inlines, Renaming, added, assigned, blocks_joined, inlined, inlined_all, inlined_body, inlined_call, inlined_file, inlines_of, kept_name, new_name, no_name, renamed, IsFirstCallFault}
 use Rattle.src_procs.specs.declared.errors.InlineError.{InlineError}
 use Rattle.src_procs.proofs.CallCauses.{no-fault}
 use Rattle.src_procs.proofs.Judged.{few_labels}
 use Rattle.src_procs.proofs.NameFits.{new_name_fits}
-use Rattle.procs_parser.specs.FileGrammar.{SpellsTrees, Last, Before, Arguments, NoArgument, Given, SpellsBlock, Ends, Sets, Puts, Calls, Chooses, ChoosesElse, Repeats, Procedures, NoProcedure, AProcedure, SpellsFile, AFile}
-use Rattle.block_cache_gen.specs.ProgramWords.{BlockHasWords}
-use Rattle.block_cache_gen.specs.TreeWords.{HasWords, TestHasWords}
+use Rattle.procs_parser.specs.Prelude.{SpellsTrees, Last, Before, Arguments, NoArgument, Given, SpellsBlock, Ends, Sets, Puts, Calls, Chooses, ChoosesElse, Repeats, Procedures, NoProcedure, AProcedure, SpellsFile, AFile}
+use Rattle.block_cache_gen.specs.Prelude.{BlockHasWords, HasWords, TestHasWords}
 use Rattle.call_laws.proofs.FittingPrograms.{ProgramFits, decls-named, left-fit, right-fit, test-words, tree-words, zero-word}
 use Rattle.call_laws.proofs.FittingTokens.{AllFit}
+use mathlib.Core.List.{reverse-cons}
+use Rattle.src_lexer.specs.declared.tokens.TokenKind.TheVariants as kind
+use Rattle.src_tree.specs.Trees as plain
 
 abbrev EachHasWords : List Tree → Type 0
 EachHasWords [] = Unit {0}

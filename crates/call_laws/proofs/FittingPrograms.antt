@@ -2,18 +2,16 @@
 use Rattle.std.proofs.Common.{ℕ, arith, pos, List, [], ◌∷◌, ◌++◌}
 use Rattle.std.specs.Prelude.{All, IsTrue}
 use Rattle.std.proofs.lemmas.List.Elements.{All-cons, All-nil}
-use Rattle.gr_word.specs.Names.{is_name}
-use Rattle.gr_word.specs.Words.{IsWord}
+use Rattle.gr_word.specs.Prelude.{is_name, IsWord}
 use Rattle.gr_word.specs.declared.variables.Label.TheVariants.{Public, Secret}
 use Rattle.src_lexer.specs.declared.tokens.TokenKind.{TokenKind}
-use Rattle.src_lexer.specs.declared.tokens.TokenKind.TheVariants as kind
 use Rattle.src_tree.specs.declared.trees.Decl.{Decl}
-use Rattle.src_tree.specs.Trees.{Block, Source, Test, Tree}
-use Rattle.src_parser.specs.Grammar.{Limits, SpellsTree, Numeral, Named, Indexed, Bracketed, Negated, Joined, Compares, Compared, Writes, Ends, Sets, Puts, Chooses, ChoosesElse, Repeats, Declares, NoMore, Scalar, Array, Sentence, Program}
-use Rattle.block_cache_gen.specs.ProgramWords.{BlockHasWords}
-use Rattle.block_cache_gen.specs.TreeWords.{HasWords, TestHasWords}
+use Rattle.src_tree.specs.Prelude.{Block, Source, Test, Tree}
+use Rattle.src_parser.specs.Prelude.{Limits, SpellsTree, Numeral, Named, Indexed, Bracketed, Negated, Joined, Compares, Compared, Writes, Ends, Sets, Puts, Chooses, ChoosesElse, Repeats, Declares, NoMore, Scalar, Array, Sentence, Program}
+use Rattle.block_cache_gen.specs.Prelude.{BlockHasWords, HasWords, TestHasWords}
 use Rattle.block_cache_gen.proofs.RangesOfCode.{small-word}
 use Rattle.call_laws.proofs.FittingTokens.{AllFit}
+use Rattle.src_lexer.specs.declared.tokens.TokenKind.TheVariants as kind
 
 pub left-fit : (a b : List TokenKind) → AllFit (a ++ b) → AllFit a
 left-fit [] b all = tt

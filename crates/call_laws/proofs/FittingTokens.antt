@@ -5,14 +5,12 @@ use Rattle.std.specs.Char.{is_ascii_digit}
 use Rattle.std.specs.List.{list_all, prefix_len}
 use Rattle.std.specs.Str.Parse.{digits_value}
 use Rattle.std.proofs.lemmas.Bool.{and_from, le-leb, ltb-false}
-use Rattle.gr_word.specs.Names.{is_name, is_name_byte}
-use Rattle.gr_word.specs.Words.{IsWord}
+use Rattle.gr_word.specs.Prelude.{is_name, is_name_byte, IsWord}
 use Rattle.src_lexer.specs.declared.tokens.TokenKind.{TokenKind}
-use Rattle.src_lexer.specs.declared.tokens.TokenKind.TheVariants as kind
-use Rattle.src_lexer.specs.Pieces.{LetterRun, Is, Big, Long, Mixed, BytePair, Two, Slashes, Apart, letter_run_of, number_run, pair_of, sign_of, word_run}
-use Rattle.src_lexer.specs.Splits.{Lexed, Splits, Ends, Blank, Comment, Word, Double, Single, TooBig, TooLong, Behind, Bad, token_at, with_token}
-use Rattle.src_parser.specs.Refusals.{token_kinds}
+use Rattle.src_lexer.specs.Prelude.{LetterRun, Is, Big, Long, Mixed, BytePair, Two, Slashes, Apart, letter_run_of, number_run, pair_of, sign_of, word_run, Lexed, Splits, Ends, Blank, Comment, Word, Double, Single, TooBig, TooLong, Behind, Bad, token_at, with_token}
+use Rattle.src_parser.specs.Prelude.{token_kinds}
 use Rattle.block_cache_gen.proofs.RangesOfCode.{small-word}
+use Rattle.src_lexer.specs.declared.tokens.TokenKind.TheVariants as kind
 
 abbrev pub KindFits : TokenKind → Type 0
 KindFits (kind.Num z) = IsWord z
@@ -34,9 +32,7 @@ PairFits Apart = Unit {0}
 
 abbrev RunFits : LetterRun → Type 0
 RunFits (Is k) = KindFits k
-RunFits Big = Unit {0}
-RunFits Long = Unit {0}
-RunFits (Mixed digits) = Unit {0}
+RunFits other = Unit {0}
 
 pick : (c : Bool) (k : TokenKind) (rest : Option TokenKind) → KindFits k → OptionFits rest
     → OptionFits (if c then Some k else rest)

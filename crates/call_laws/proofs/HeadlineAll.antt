@@ -2,13 +2,10 @@
 use Rattle.std.proofs.Common.{◌≢◌, inl, inr, ℕ, List, Option, Some, sym, ap, ◌∙◌, subst}
 use Rattle.std.specs.FinMap.{get}
 use Rattle.std.proofs.lemmas.Option.{same_Some}
-use Rattle.gr_outside.specs.Shelf.{Files, SameBut}
-use Rattle.command_words.specs.CommandLines.{AreTexts, Text}
-use Rattle.call_laws.specs.Headline.{Headline, NameOutput}
-use Rattle.call_laws.specs.HeadlineFollows.{HasHeadline, HeadlineFollows}
-use Rattle.call_steps.specs.Outside.{Explains, Outside}
-use Rattle.call_laws.specs.Verbs.{work_of}
-use Rattle.call_steps.specs.Work.{MayWrite}
+use Rattle.gr_outside.specs.Prelude.{Files, SameBut}
+use Rattle.command_words.specs.Prelude.{AreTexts, Text}
+use Rattle.call_laws.specs.Prelude.{Headline, NameOutput, HasHeadline, HeadlineFollows, work_of}
+use Rattle.call_steps.specs.Prelude.{Explains, Outside, MayWrite}
 use Rattle.call_laws.proofs.HeadlineBuses.{shared}
 use Rattle.call_laws.proofs.HeadlineCalls.{Called}
 use Rattle.call_laws.proofs.HeadlineOutputs.{changed-is, words-name}

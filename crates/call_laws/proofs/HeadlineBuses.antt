@@ -4,32 +4,20 @@ use Rattle.std.specs.Option.{option_map}
 use Rattle.std.proofs.lemmas.Bool.{ltb-false}
 use Rattle.std.proofs.lemmas.List.{append-nil}
 use Rattle.std.proofs.lemmas.Option.{same_Some}
-use Rattle.gr_outside.specs.Shelf.{Files}
-use Rattle.lt_isa.specs.Object.{Parts}
-use Rattle.lt_isa.specs.Oblivious.{IsOblivious}
-use Rattle.lt_isa.specs.Start.{FitsObject, wants_of}
+use Rattle.gr_outside.specs.Prelude.{Files}
+use Rattle.lt_isa.specs.Prelude.{Parts, IsOblivious, FitsObject, wants_of}
 use Rattle.lt_isa.proofs.Variables.{wants_are_variables}
 use Rattle.run_data.proofs.ReadWords.{inputs_fit}
-use Rattle.bus_arbiter.specs.Laws.{AllOblivious}
-use Rattle.bus_arbiter.specs.Refusals.{refusal}
-use Rattle.bus_arbiter.specs.Shares.{IsPlan, share_of}
-use Rattle.bus_arbiter.specs.Transfers.{Transfer}
+use Rattle.bus_arbiter.specs.Prelude.{AllOblivious, refusal, IsPlan, share_of, Transfer}
 use Rattle.bus_arbiter.proofs.JoinedLaws.{agreeing}
 use Rattle.bus_arbiter.proofs.PlannedRuns.{none-overlaps, plan-none, plan-takes}
 use Rattle.call_replies.specs.declared.replies.Verdict.TheVariants.{Shared}
-use Rattle.command_words.specs.Pairs.{Pair, in_pairs, pairs_of}
-use Rattle.call_laws.specs.Verbs.{works}
-use Rattle.machine_verbs.specs.Bus.{Read, all_halted, bus_work, none_read, on_plan, one_read, shares_bus, with_cores}
-use Rattle.command_words.specs.CommandLines.{Part, StandTogether, Text}
-use Rattle.call_laws.specs.Headline.{AllHeld, HoldsInputs, HoldsObject, Shares, done_status}
-use Rattle.call_laws.specs.Promises.{IsDone}
-use Rattle.machine_verbs.specs.Sharing.{AreRead}
-use Rattle.call_steps.specs.Showing.{bus_seen, core_lines, transfer_lines}
-use Rattle.call_steps.specs.Steps.{with_inputs}
-use Rattle.call_replies.specs.Texts.{verdict_status}
-use Rattle.command_words.specs.VerbLines.{Call}
+use Rattle.command_words.specs.Prelude.{Pair, in_pairs, pairs_of, Part, StandTogether, Text, Call}
+use Rattle.call_laws.specs.Prelude.{works, AllHeld, HoldsInputs, HoldsObject, Shares, done_status, IsDone}
+use Rattle.machine_verbs.specs.Prelude.{Read, all_halted, bus_work, none_read, on_plan, one_read, shares_bus, with_cores, AreRead}
+use Rattle.call_steps.specs.Prelude.{bus_seen, core_lines, transfer_lines, with_inputs, Ending, Holds, IsVerdict, MayEnd, Work, said_at}
+use Rattle.call_replies.specs.Prelude.{verdict_status}
 use Rattle.command_words.specs.declared.verbs.Verb.TheVariants.{Bus}
-use Rattle.call_steps.specs.Work.{Ending, Holds, IsVerdict, MayEnd, Work, said_at}
 use Rattle.call_laws.proofs.BusAgreeing.{joining}
 use Rattle.command_words.proofs.BusWords.{bus-given}
 use Rattle.call_laws.proofs.DoneWork.{checked-on, given-on, planned-on}

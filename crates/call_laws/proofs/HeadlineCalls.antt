@@ -2,15 +2,11 @@
 use Rattle.std.proofs.Common.{◌≡◌, ◌≢◌, inl, inr, ℕ, ◌<◌, List, ◌∷◌, ◌++◌, Option, Some, None, refl, sym, ap, ◌∙◌, subst, arith}
 use Rattle.std.proofs.lemmas.List.{append_cancel_left}
 use Rattle.std.proofs.lemmas.Option.{same_Some}
-use Rattle.gr_base.specs.Added.{Adds}
-use Rattle.gr_outside.specs.Shelf.{Files}
-use Rattle.command_words.specs.CommandLines.{AreTexts, Text}
-use Rattle.call_laws.specs.HeadlineFollows.{Tells}
-use Rattle.call_steps.specs.Outside.{Outside}
-use Rattle.call_laws.specs.Promises.{IsAnswered, IsDone, Promises}
-use Rattle.call_laws.specs.Verbs.{work_of, works}
-use Rattle.command_words.specs.WordsAsk.{AskExactly}
-use Rattle.call_steps.specs.Work.{Ending, Holds, MayEnd, Work, files_at, said_at}
+use Rattle.gr_base.specs.Prelude.{Adds}
+use Rattle.gr_outside.specs.Prelude.{Files}
+use Rattle.command_words.specs.Prelude.{AreTexts, Text, AskExactly}
+use Rattle.call_laws.specs.Prelude.{Tells, IsAnswered, IsDone, Promises, work_of, works}
+use Rattle.call_steps.specs.Prelude.{Outside, Ending, Holds, MayEnd, Work, files_at, said_at}
 use Rattle.call_laws.proofs.OneAnswers.{answer-of}
 use Rattle.call_laws.proofs.Promised.{answers-of, no-work}
 

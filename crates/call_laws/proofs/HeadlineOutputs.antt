@@ -7,40 +7,23 @@ use Rattle.std.specs.Cmp.Lexicographic.{slice_cmp, nat_list_cmp_total}
 use Rattle.std.proofs.lemmas.Option.{same_Some}
 use Rattle.std.proofs.lemmas.Map.Text.{is_eq-slice_cmp}
 use Rattle.std.proofs.lemmas.Slice.Eq.{bytes_eq-Decides}
-use Rattle.gr_outside.specs.Shelf.{Files}
+use Rattle.gr_outside.specs.Prelude.{Files}
 use Rattle.gr_word.specs.declared.variables.Want.{Want}
-use Rattle.lt_isa.specs.Object.{Parts}
+use Rattle.lt_isa.specs.Prelude.{Parts}
 use Rattle.call_steps.specs.declared.targets.Target.{Target}
-use Rattle.src_tree.specs.Trees.{Source}
+use Rattle.src_tree.specs.Prelude.{Source}
 use Rattle.trace_patterns.specs.declared.reasons.Reason.{Reason}
 use Rattle.bus_arbiter.specs.declared.errors.BusError.{BusError}
-use Rattle.bus_arbiter.specs.Refusals.{refusal}
-use Rattle.bus_arbiter.specs.Shares.{share_of}
+use Rattle.bus_arbiter.specs.Prelude.{refusal, share_of}
 use Rattle.note_infer.specs.declared.faults.InferError.{InferError}
 use Rattle.call_replies.specs.declared.source_faults.SourceFault.{SourceFault}
 use Rattle.call_replies.specs.declared.replies.Verdict.{Verdict}
-use Rattle.call_laws.specs.Assemble.{assemble_work}
-use Rattle.command_words.specs.Pairs.{Pair}
-use Rattle.machine_verbs.specs.Bus.{Read, bus_work, none_read, on_plan, one_read, shares_bus, with_cores, with_halts}
-use Rattle.call_laws.specs.Check.{check_work}
-use Rattle.command_words.specs.CommandLines.{AreTexts, IsAmong, Part, Says, Text}
-use Rattle.call_steps.specs.Compile.{compile_work, on_compiled}
-use Rattle.call_laws.specs.Disassemble.{disassemble_work}
-use Rattle.call_laws.specs.Evaluate.{evaluate_work, on_left}
-use Rattle.call_steps.specs.Histogram.{Made}
-use Rattle.call_laws.specs.Infer.{infer_work, on_inferred}
-use Rattle.call_steps.specs.Questions.{Answer, Question}
-use Rattle.machine_verbs.specs.Run.{on_halt, run_work}
-use Rattle.call_laws.specs.Sample.{on_sampled, sample_work}
-use Rattle.call_steps.specs.Steps.{on_judged, or_ends, with_accepted, with_assembly, with_object, with_source, with_variables}
-use Rattle.machine_verbs.specs.Trace.{shows_on, trace_work}
-use Rattle.command_words.specs.VerbLines.{WritesFile, flags_of, name_of, options_of}
-use Rattle.call_laws.specs.Verbs.{work_of, works}
+use Rattle.call_laws.specs.Prelude.{assemble_work, check_work, disassemble_work, evaluate_work, on_left, infer_work, on_inferred, on_sampled, sample_work, work_of, works, NameOutput}
+use Rattle.command_words.specs.Prelude.{Pair, AreTexts, IsAmong, Part, Says, Text, WritesFile, flags_of, name_of, options_of, verb_names}
+use Rattle.machine_verbs.specs.Prelude.{Read, bus_work, none_read, on_plan, one_read, shares_bus, with_cores, with_halts, on_halt, run_work, shows_on, trace_work}
+use Rattle.call_steps.specs.Prelude.{compile_work, on_compiled, Made, Answer, Question, on_judged, or_ends, with_accepted, with_assembly, with_object, with_source, with_variables, Asks, Ends, MayWrite, Reads, Work, Writes, WritesIt, WritesLater, WritesThen}
 use Rattle.command_words.specs.declared.verbs.Verb.{Verb}
 use Rattle.command_words.specs.declared.verbs.Verb.TheVariants.{Assemble, Compile, Disassemble, Evaluate, Infer, Run, Sample}
-use Rattle.command_words.specs.WordsAsk.{verb_names}
-use Rattle.call_steps.specs.Work.{Asks, Ends, MayWrite, Reads, Work, Writes, WritesIt, WritesLater, WritesThen}
-use Rattle.call_laws.specs.Headline.{NameOutput}
 use Rattle.command_words.proofs.VerbWords.{words-ask}
 use Rattle.call_laws.proofs.EachVerb.{each-verb}
 
@@ -60,9 +43,6 @@ of-write work name (WritesThen question next answer name' later) = (answer, late
 module _ (P : List ℕ → Type 0) where
   abbrev pub Only : Work → Type 0
   Only work = (name : List ℕ) → MayWrite work name → P name
-
-  ends : (work : Work) → ((name : List ℕ) → MayWrite work name → ⊥) → Only work
-  ends work none name may = absurd (none name may)
 
   ending : (seen : _) (verdict : _) → Only (Ends seen verdict)
   ending seen verdict name may = absurd (of-write (Ends seen verdict) name may)

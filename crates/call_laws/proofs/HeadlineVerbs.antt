@@ -3,41 +3,22 @@ use Rattle.std.proofs.Common.{◌≡◌, inl, ℕ, ℤ, Bool, true, false, List,
 use Rattle.std.specs.Option.{option_map}
 use Rattle.std.specs.FinMap.{get}
 use Rattle.std.proofs.lemmas.Option.{same_Some}
-use Rattle.gr_outside.specs.Shelf.{Files, with_file}
-use Rattle.lt_isa.specs.Object.{Parts}
-use Rattle.lt_isa.specs.Oblivious.{IsOblivious}
-use Rattle.lt_isa.specs.Start.{trace, wants_of}
+use Rattle.gr_outside.specs.Prelude.{Files, with_file}
+use Rattle.lt_isa.specs.Prelude.{Parts, IsOblivious, trace, wants_of}
 use Rattle.call_steps.specs.declared.targets.Target.{Target}
-use Rattle.flow_types.specs.Wants.{declared_wants}
-use Rattle.run_data.specs.OutputText.{output_of}
-use Rattle.src_procs.specs.Inlined.{added, inlined_body}
-use Rattle.src_tree.specs.Meaning.{Store}
-use Rattle.src_tree.specs.Trees.{Source}
+use Rattle.flow_types.specs.Prelude.{declared_wants}
+use Rattle.run_data.specs.Prelude.{output_of}
+use Rattle.src_procs.specs.Prelude.{added, inlined_body}
+use Rattle.src_tree.specs.Prelude.{Store, Source}
 use Rattle.call_replies.specs.declared.replies.Verdict.TheVariants.{Accepted, Spent, Traced}
 use Rattle.command_words.specs.declared.verbs.Verb.TheVariants.{Check, Compile, Evaluate, Infer, Run, Trace}
 use Rattle.call_replies.specs.declared.replies.Done.{Done}
 use Rattle.call_replies.specs.declared.replies.Done.TheVariants.{Evaluated, Halted}
-use Rattle.call_laws.specs.Calls.{MeansItsCalls}
-use Rattle.call_laws.specs.Check.{check_work}
-use Rattle.command_words.specs.CommandLines.{Part, Text, has_flag, value_in}
-use Rattle.call_steps.specs.Compile.{target_for}
-use Rattle.call_steps.specs.Compiled.{IsCompiledTo}
-use Rattle.call_laws.specs.Evaluate.{evaluate_work, evaluates_on, on_left}
-use Rattle.call_laws.specs.Headline.{Compiles, Evaluates, HasRun, HoldsInputs, HoldsObject, HoldsOblivious, Infers, IsObjectOf, Runs, SpellsProgram, Traces, done_status, with_output}
-use Rattle.call_laws.specs.Infer.{infer_work}
-use Rattle.command_words.specs.Options.{number_given}
-use Rattle.call_laws.specs.Promises.{IsDone, IsSafe}
-use Rattle.call_steps.specs.Questions.{WhenItHalts}
-use Rattle.machine_verbs.specs.Run.{on_halt, run_work}
-use Rattle.call_steps.specs.Runs.{HaltOf, run_outputs}
-use Rattle.call_steps.specs.Showing.{Seen, events_alone, nothing_seen}
-use Rattle.call_steps.specs.Sources.{Spells, SpellsTyped}
-use Rattle.call_steps.specs.Steps.{with_accepted, with_inputs, with_variables}
-use Rattle.call_replies.specs.Texts.{verdict_status}
-use Rattle.machine_verbs.specs.Trace.{shows_on, trace_work}
-use Rattle.command_words.specs.VerbLines.{Call}
-use Rattle.call_laws.specs.Verbs.{work_of, works}
-use Rattle.call_steps.specs.Work.{Asks, Ending, Ends, Holds, IsVerdict, MayEnd, Work, Writes, files_at, said_at}
+use Rattle.call_laws.specs.Prelude.{MeansItsCalls, check_work, evaluate_work, evaluates_on, on_left, Compiles, Evaluates, HasRun, HoldsInputs, HoldsObject, HoldsOblivious, Infers, IsObjectOf, Runs, SpellsProgram, Traces, done_status, with_output, infer_work, IsDone, IsSafe, work_of, works}
+use Rattle.command_words.specs.Prelude.{Part, Text, has_flag, value_in, number_given, Call}
+use Rattle.call_steps.specs.Prelude.{target_for, IsCompiledTo, WhenItHalts, HaltOf, run_outputs, Seen, events_alone, nothing_seen, Spells, SpellsTyped, with_accepted, with_inputs, with_variables, Asks, Ending, Ends, Holds, IsVerdict, MayEnd, Work, Writes, files_at, said_at}
+use Rattle.machine_verbs.specs.Prelude.{on_halt, run_work, shows_on, trace_work}
+use Rattle.call_replies.specs.Prelude.{verdict_status}
 use Rattle.call_laws.proofs.Behind.{behind-it}
 use Rattle.call_laws.proofs.Calls.{means-its-calls}
 use Rattle.call_laws.proofs.CompiledFiles.{compiled-of}

@@ -6,22 +6,17 @@ use Rattle.std.specs.Int.{bit_at}
 use Rattle.std.proofs.lemmas.Bool.{cases_eq, cases_lt, eqb-true, eq-eqb, ne_eqb}
 use Rattle.std.proofs.lemmas.List.{ext_get_or, length-map}
 use Rattle.std.proofs.lemmas.Nat.Bits.{bit_at-lt, same_from_bits_below}
-use Rattle.gr_base.specs.Lists.{EachAfter}
+use Rattle.gr_base.specs.Prelude.{EachAfter}
 use Rattle.lt_isa.specs.declared.symbols.Note.{Note}
-use Rattle.lt_isa.specs.Object.{Parts}
-use Rattle.lt_isa.specs.Ranges.{IsInRange, NoteFits}
+use Rattle.lt_isa.specs.Prelude.{Parts, IsInRange, NoteFits}
 use Rattle.lt_checker.proofs.AcceptanceLaws.{first_refusal-once, refused_is_not_accepted}
-use Rattle.trace_patterns.specs.Accepts.{Accepts, FirstRefusal}
-use Rattle.trace_patterns.specs.Known.{Known, claimed_bank}
+use Rattle.trace_patterns.specs.Prelude.{Accepts, FirstRefusal, Known, claimed_bank}
 use Rattle.trace_patterns.proofs.Masks.{get_or-marks, get_or-claims}
-use Rattle.note_infer.specs.LeastNotes.{with_notes}
-use Rattle.note_infer.specs.Inferred.{claim_of, HasLeastNotes, IsWhyNot}
-use Rattle.note_infer.specs.Steps.{IsDead}
+use Rattle.note_infer.specs.Prelude.{with_notes, claim_of, HasLeastNotes, IsWhyNot, IsDead}
 use Rattle.note_infer.specs.declared.faults.InferError.{InferError}
 use Rattle.note_infer.specs.declared.faults.InferError.TheVariants.{Dead, Refused, TooMany, Memory}
 use Rattle.note_infer.proofs.OneList.{least_notes_are_one}
-use Rattle.call_steps.specs.Inferred.{GetsNotes, InferredOnce}
-use Rattle.call_steps.specs.Questions.{IsRight, WhatIsInferred}
+use Rattle.call_steps.specs.Prelude.{GetsNotes, InferredOnce, IsRight, WhatIsInferred}
 
 -- ---- one field
 

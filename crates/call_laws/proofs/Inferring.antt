@@ -3,27 +3,21 @@ use Rattle.std.proofs.Common.{◌≡◌, ◌≢◌, inl, inr, Bool, cond, ℕ, �
 use Rattle.std.proofs.lemmas.Cmp.{eq_by_cmp_equiv}
 use Rattle.std.specs.Cmp.Lexicographic.{nat_list_cmp_total}
 use Rattle.std.specs.FinMap.{get, get-insert}
-use Rattle.gr_outside.specs.Shelf.{Files, with_file}
-use Rattle.lt_isa.specs.Object.{Parts}
+use Rattle.gr_outside.specs.Prelude.{Files, with_file}
+use Rattle.lt_isa.specs.Prelude.{Parts}
 use Rattle.lt_checker.proofs.Soundness.{accepted_is_oblivious}
 use Rattle.path_oram.proofs.AlikeLeaves.{leaves_alike}
-use Rattle.object_file.specs.Spelling.{spelling}
+use Rattle.object_file.specs.Prelude.{spelling}
 use Rattle.note_infer.specs.declared.faults.InferError.{InferError}
-use Rattle.call_replies.specs.Texts.{Said}
-use Rattle.call_steps.specs.Inferred.{GetsNotes}
-use Rattle.call_laws.specs.Infer.{infer_work, infers_to, on_inferred}
-use Rattle.call_steps.specs.Objects.{SpellsObject}
-use Rattle.call_steps.specs.Questions.{IsRight, WhatIsInferred}
-use Rattle.call_steps.specs.Work.{Work, Ending, MayEnd, Holds, said_at, files_at}
-use Rattle.call_steps.specs.Outside.{Outside, Explains}
-use Rattle.call_laws.specs.Promises.{Answers, NoAnswer, AnswersSo, IsInferredFile, IsSafe}
+use Rattle.call_replies.specs.Prelude.{Said}
+use Rattle.call_steps.specs.Prelude.{GetsNotes, SpellsObject, IsRight, WhatIsInferred, Work, Ending, MayEnd, Holds, said_at, files_at, Outside, Explains, EndsWorkWith, SaysNotes}
+use Rattle.call_laws.specs.Prelude.{infer_work, infers_to, on_inferred, Answers, NoAnswer, AnswersSo, IsInferredFile, IsSafe}
 use Rattle.call_laws.proofs.Behind.{behind-it, not-done}
 use Rattle.call_laws.proofs.DoneWork.{spelled-on}
 use Rattle.call_laws.proofs.Promised.{answers-of}
 use Rattle.call_replies.specs.declared.replies.Verdict.TheVariants.{NoNotes}
+use Rattle.note_infer.specs.Prelude.{IsWhyNot, NoNotesWouldDo}
 use Rattle.note_infer.specs.declared.faults.InferError.TheVariants as notes
-use Rattle.note_infer.specs.Inferred.{IsWhyNot, NoNotesWouldDo}
-use Rattle.call_steps.specs.Progress.{EndsWorkWith, SaysNotes}
 
 -- ---- what is written
 

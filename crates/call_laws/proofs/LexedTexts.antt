@@ -2,15 +2,13 @@
 use Rattle.std.proofs.Common.{ℕ, zero, suc, ◌+◌, ◌<◌, ◌≤◌, Bool, true, false, List, [], ◌∷◌, length, drop, length-drop, Option, Some, None, Ok, Err, arith}
 use Rattle.std.specs.Prelude.{slice_index, if◌then◌else◌}
 use Rattle.std.specs.List.{prefix_len, take_while}
-use Rattle.gr_word.specs.Names.{is_name_byte}
+use Rattle.gr_word.specs.Prelude.{is_name_byte}
 use Rattle.src_lexer.specs.declared.tokens.TokenKind.{TokenKind}
 use Rattle.src_lexer.specs.declared.tokens.Token.{Token}
 use Rattle.src_lexer.specs.declared.errors.LexError.{LexError}
-use Rattle.src_lexer.specs.declared.errors.LexError.TheVariants as error
-use Rattle.src_lexer.specs.Pieces.{is_white, LetterRun, Is, Big, Long, Mixed, letter_run_of, sign_of, BytePair, Two, Slashes, Apart, pair_of}
-use Rattle.src_lexer.specs.Splits.{Splits, Ends, token_at}
-use Rattle.src_lexer.specs.Found.{Found, Skipped, Piece, Faulty, run_found, single_found, sign_found, found_in}
+use Rattle.src_lexer.specs.Prelude.{is_white, LetterRun, Is, Big, Long, Mixed, letter_run_of, sign_of, BytePair, Two, Slashes, Apart, pair_of, Splits, Ends, token_at, Found, Skipped, Piece, Faulty, run_found, single_found, sign_found, found_in}
 use Rattle.src_lexer.proofs.FirstPieces.{Allows, found_allows}
+use Rattle.src_lexer.specs.declared.errors.LexError.TheVariants as error
 
 -- an error other than want of memory
 abbrev pub IsTold : LexError → Type 0

@@ -4,23 +4,19 @@ use Rattle.std.specs.Prelude.{codes, decimal}
 use Rattle.std.specs.Fmt.{digits, digits_onto, digit_glyph}
 use Rattle.std.proofs.Math.ListN.{get_or}
 use Rattle.std.proofs.lemmas.List.{append_cancel_left, get_or-take, length-take}
-use Rattle.gr_base.specs.Added.{AddsLess}
-use Rattle.gr_base.specs.Counts.{Rose}
-use Rattle.lt_isa.specs.Trace.{Stamped}
-use Rattle.bus_arbiter.specs.Transfers.{Transfer}
-use Rattle.run_data.specs.TraceText.{event_line, event_text}
+use Rattle.gr_base.specs.Prelude.{AddsLess, Rose}
+use Rattle.lt_isa.specs.Prelude.{Stamped}
+use Rattle.bus_arbiter.specs.Prelude.{Transfer}
+use Rattle.run_data.specs.Prelude.{event_line, event_text, leaves_text, levels_behind, levels_line}
 use Rattle.call_replies.specs.declared.replies.Verdict.{Verdict}
 use Rattle.call_replies.specs.declared.replies.Verdict.TheVariants.{Accepted, Traced, Malformed, Refused, BadSource, BadInput, Spent, BadAssembly, OffBus, Shared, NoNotes}
 use Rattle.call_replies.specs.declared.replies.Done.{Done}
 use Rattle.call_replies.specs.declared.replies.Done.TheVariants.{Halted, Assembled, Disassembled, Evaluated, Compiled, Sampled, Inferred}
-use Rattle.run_data.specs.PathText.{leaves_text, levels_behind, levels_line}
 use Rattle.run_data.proofs.PathTexts.{behind-text}
-use Rattle.processor.specs.Watching.{WatcherTold, AnEvent, APath}
-use Rattle.call_steps.specs.Showing.{Seen, core_lines, shown_lines, transfer_lines}
-use Rattle.call_replies.specs.Texts.{unread, unwritten, no_memory, too_long, comes_to, wrote}
-use Rattle.call_steps.specs.Work.{Work, IsVerdict, said_at}
-use Rattle.call_steps.specs.Outside.{Outside, Unread, Long, Judged, Written, NotWritten, Starved, Explains, NoWork, NoRoom, Worked}
-use Rattle.call_laws.specs.Promises.{Gained}
+use Rattle.processor.specs.Prelude.{WatcherTold, AnEvent, APath}
+use Rattle.call_steps.specs.Prelude.{Seen, core_lines, shown_lines, transfer_lines, Work, IsVerdict, said_at, Outside, Unread, Long, Judged, Written, NotWritten, Starved, Explains, NoWork, NoRoom, Worked}
+use Rattle.call_replies.specs.Prelude.{unread, unwritten, no_memory, too_long, comes_to, wrote}
+use Rattle.call_laws.specs.Prelude.{Gained}
 use Rattle.call_laws.proofs.Promised.{cut, verdict-other}
 
 -- the text doesn't begin with `f`, or its seventh byte isn't `4`
@@ -58,15 +54,8 @@ verdict-line : (verdict : Verdict) (more : List ℕ) → IsOther more → IsOthe
 verdict-line Accepted more other = inl (λ e. omega (arith, e))
 verdict-line (Traced true) more other = inl (λ e. omega (arith, e))
 verdict-line (Traced false) more other = inl (λ e. omega (arith, e))
-verdict-line (Malformed fault) more other = inr (λ e. omega (arith, e))
-verdict-line (Refused pc reason) more other = inr (λ e. omega (arith, e))
-verdict-line (BadSource fault) more other = inr (λ e. omega (arith, e))
-verdict-line (BadInput fault) more other = inr (λ e. omega (arith, e))
-verdict-line (Spent most) more other = inr (λ e. omega (arith, e))
-verdict-line (BadAssembly fault) more other = inr (λ e. omega (arith, e))
-verdict-line (OffBus core cause) more other = inr (λ e. omega (arith, e))
 verdict-line (Shared halted) more other = other
-verdict-line (NoNotes why) more other = inr (λ e. omega (arith, e))
+verdict-line rest more other = inr (λ e. omega (arith, e))
 
 levels-other : (levels : List (List (Option ℕ))) → IsOther (levels_behind [] 2 levels)
 levels-other [] = inl (λ e. omega (arith, e))

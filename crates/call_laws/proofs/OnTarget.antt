@@ -1,13 +1,12 @@
 -- The plan of a program's memory on a target is sound.
 use Rattle.std.proofs.Common.{ℕ, Bool, true, false, List, subst}
-use Rattle.gr_base.specs.Lists.{Within}
-use Rattle.src_tree.specs.Limits.{IsWithinLimits}
-use Rattle.src_tree.specs.Trees.{Source}
-use Rattle.scratch_alloc.specs.Plans.{IsSoundPlan}
+use Rattle.gr_base.specs.Prelude.{Within}
+use Rattle.src_tree.specs.Prelude.{IsWithinLimits, Source}
+use Rattle.scratch_alloc.specs.Prelude.{IsSoundPlan}
 use Rattle.scratch_alloc.proofs.StandardPlan.{standard_sound}
 use Rattle.compiled_objects.proofs.FastPlans.{fast-sound}
 use Rattle.call_steps.specs.declared.targets.Target.{Target}
-use Rattle.call_steps.specs.Compiled.{HasRoom, IsCompiledTo, plan_for}
+use Rattle.call_steps.specs.Prelude.{HasRoom, IsCompiledTo, plan_for}
 
 plan-sound : (fast : Bool) (p : Source) (w : ℕ) → IsWithinLimits p → Within 3 9 w → HasRoom fast p w
     → IsSoundPlan p w (plan_for fast p w)

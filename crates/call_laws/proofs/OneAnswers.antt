@@ -1,62 +1,42 @@
 -- If the contents of files are known, a work whose questions have one right answer each has one ending.
 use Rattle.std.proofs.Common.{◌≡◌, ℕ, ◌+◌, ◌<◌, ◌≤◌, ℤ, Bool, false, List, [], ◌∷◌, length, Option, Some, None, is_some, Result, Ok, Err, refl, sym, ap, ap₂, ◌∙◌, subst, arith}
 use Rattle.std.specs.FinMap.{get}
-use Rattle.gr_outside.specs.Shelf.{Files}
-use Rattle.lt_isa.specs.Object.{Parts}
-use Rattle.lt_isa.specs.Ranges.{IsInRange}
-use Rattle.lt_isa.specs.Start.{FitsObject, trace, wants_of}
-use Rattle.lt_isa.specs.Trace.{Stamped}
+use Rattle.gr_outside.specs.Prelude.{Files}
+use Rattle.lt_isa.specs.Prelude.{Parts, IsInRange, FitsObject, trace, wants_of, Stamped}
 use Rattle.lt_isa.proofs.Variables.{wants_are_variables}
 use Rattle.trace_patterns.specs.declared.reasons.Reason.{Reason}
 use Rattle.lt_checker.proofs.AcceptanceLaws.{first_refusal-once, refused_is_not_accepted}
 use Rattle.lt_checker.proofs.Soundness.{accepted_is_oblivious}
 use Rattle.lt_assembler.specs.declared.errors.AsmError.{AsmError}
-use Rattle.lt_assembler.specs.Assembled.{assembled}
+use Rattle.lt_assembler.specs.Prelude.{assembled, canonical}
 use Rattle.lt_assembler.proofs.FirstFaulty.{one_fault}
 use Rattle.lt_assembler.proofs.SpelledRead.{spells-assembled}
-use Rattle.object_file.specs.Reading.{decoded}
-use Rattle.object_file.specs.Spelling.{spelling}
+use Rattle.object_file.specs.Prelude.{decoded, spelling}
 use Rattle.object_file.specs.declared.errors.DecodeError.{DecodeError}
 use Rattle.object_file.proofs.FaultLaws.{first-decoded}
 use Rattle.object_file.proofs.ObjectLaws.{decoded-spelling}
-use Rattle.run_data.specs.InputsOf.{json_of, inputs_of}
+use Rattle.run_data.specs.Prelude.{json_of, inputs_of}
 use Rattle.run_data.specs.declared.errors.InputError.{InputError}
-use Rattle.run_data.specs.declared.errors.InputError.TheVariants as error
 use Rattle.run_data.proofs.ReadWords.{inputs_fit}
-use Rattle.bus_arbiter.specs.Laws.{AllFit}
+use Rattle.bus_arbiter.specs.Prelude.{AllFit, refusal, share_of}
 use Rattle.bus_arbiter.specs.declared.errors.BusError.{BusError}
-use Rattle.bus_arbiter.specs.Refusals.{refusal}
-use Rattle.bus_arbiter.specs.Shares.{share_of}
 use Rattle.bus_arbiter.proofs.JoinedLaws.{one-list}
 use Rattle.call_replies.specs.declared.replies.InputFault.{InputFault}
 use Rattle.call_replies.specs.declared.replies.Done.{Done}
 use Rattle.call_replies.specs.declared.replies.Done.TheVariants.{Assembled, Disassembled, Inferred}
 use Rattle.call_replies.specs.declared.replies.Verdict.{Verdict}
 use Rattle.call_replies.specs.declared.replies.Verdict.TheVariants.{Accepted, Traced, BadAssembly, BadInput, Malformed, NoNotes}
-use Rattle.command_words.specs.Pairs.{Pair}
-use Rattle.machine_verbs.specs.Bus.{Read, bus_work, none_read, on_plan, one_read, shares_bus, with_cores, with_halts}
-use Rattle.call_laws.specs.Assemble.{assemble_work}
-use Rattle.call_laws.specs.Check.{check_work}
-use Rattle.call_laws.specs.Disassemble.{disassemble_work}
-use Rattle.call_laws.specs.Infer.{infer_work, infers_to, on_inferred}
-use Rattle.call_laws.specs.OneAnswer.{HasOneAnswer, HoldRun, TraceAgrees}
-use Rattle.call_laws.specs.Promises.{Answers, AnswersSo, NoAnswer}
-use Rattle.call_replies.specs.Texts.{Said}
-use Rattle.lt_assembler.specs.Canonical.{canonical}
+use Rattle.command_words.specs.Prelude.{Pair}
+use Rattle.machine_verbs.specs.Prelude.{Read, bus_work, none_read, on_plan, one_read, shares_bus, with_cores, with_halts, on_halt, run_work, runs_on, AreRead, shows_on, trace_work, traces_on}
+use Rattle.call_laws.specs.Prelude.{assemble_work, check_work, disassemble_work, infer_work, infers_to, on_inferred, HasOneAnswer, HoldRun, TraceAgrees, Answers, AnswersSo, NoAnswer}
+use Rattle.call_replies.specs.Prelude.{Said}
 use Rattle.note_infer.specs.declared.faults.InferError.{InferError}
-use Rattle.call_steps.specs.Objects.{SpellsObject, object_limit}
-use Rattle.call_steps.specs.Questions.{Answer, AreInputs, IsRight, Question, Shows, WhatIsInferred, WhatIsJoined, WhenItHalts, WhetherAccepted, WhichAssembly, WhichInputs, WhichObject}
-use Rattle.machine_verbs.specs.Run.{on_halt, run_work, runs_on}
-use Rattle.call_steps.specs.Runs.{HaltOf}
-use Rattle.machine_verbs.specs.Sharing.{AreRead}
-use Rattle.call_steps.specs.Showing.{Seen, events_alone, nothing_seen}
-use Rattle.call_steps.specs.Steps.{input_limit, on_judged, or_ends, with_accepted, with_assembly, with_inputs, with_object}
-use Rattle.machine_verbs.specs.Trace.{shows_on, trace_work, traces_on}
-use Rattle.call_steps.specs.Work.{Answered, Asks, Ended, Ending, Ends, Found, Holds, IsTooLong, IsUnread, IsVerdict, IsWritten, MayEnd, Missing, Reads, TooLong, Work, Writes, Wrote, files_at, said_at}
+use Rattle.call_steps.specs.Prelude.{SpellsObject, object_limit, Answer, AreInputs, IsRight, Question, Shows, WhatIsInferred, WhatIsJoined, WhenItHalts, WhetherAccepted, WhichAssembly, WhichInputs, WhichObject, HaltOf, Seen, events_alone, nothing_seen, input_limit, on_judged, or_ends, with_accepted, with_assembly, with_inputs, with_object, Answered, Asks, Ended, Ending, Ends, Found, Holds, IsTooLong, IsUnread, IsVerdict, IsWritten, MayEnd, Missing, Reads, TooLong, Work, Writes, Wrote, files_at, said_at}
 use Rattle.call_laws.proofs.BusAgreeing.{one-halt}
 use Rattle.call_laws.proofs.InferredOnce.{inference-once}
 use Rattle.machine_verbs.proofs.Pairing.{none-read, one-read}
 use Rattle.call_steps.proofs.Saying.{traces-agree}
+use Rattle.run_data.specs.declared.errors.InputError.TheVariants as error
 
 -- ---- the files after an ending, if the contents of files are known
 
@@ -114,13 +94,8 @@ assembly-once : (text : List ℕ) (a b : Result Parts AsmError) → IsRight (Whi
 assembly-once text a b first second = sym (assembled-right text a first) ∙ assembled-right text b second
 
 shown-once : (first : InputError) (a b : InputFault) → Shows first a → Shows first b → a ≡ b
-shown-once error.BadJson a b one other = one ∙ sym other
-shown-once error.NotAnObject a b one other = one ∙ sym other
-shown-once (error.UnknownName name) a b one other = one ∙ sym other
-shown-once (error.WrongShape name) a b one other = one ∙ sym other
-shown-once (error.WrongLength name) a b one other = one ∙ sym other
-shown-once (error.NotAWord name) a b one other = one ∙ sym other
 shown-once error.Memory a b one other = absurd one
+shown-once rest a b one other = one ∙ sym other
 
 ok-err : {X A E : Type 0} (r : Result A E) (a : A) (e : E) → r ≡ Ok a → r ≡ Err e → X
 ok-err {A = A} {E = E} r a e ok err = absurd (let f : ◌≡◌ {A = Result A E} (Ok a) (Err e) = sym ok ∙ err in cc)

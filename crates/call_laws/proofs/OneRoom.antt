@@ -4,25 +4,20 @@ use Rattle.std.specs.Prelude.{if◌then◌else◌}
 use Rattle.std.proofs.lemmas.Bool.{cases_lt, ne_eqb}
 use Rattle.std.proofs.lemmas.List.Sums.{sum_by-cons}
 use Rattle.gr_word.specs.declared.variables.Label.TheVariants.{Public, Secret}
-use Rattle.lt_isa.specs.Limits.{most_blocks}
+use Rattle.lt_isa.specs.Prelude.{most_blocks}
 use Rattle.src_tree.specs.declared.trees.Decl.{Decl}
-use Rattle.src_tree.specs.Trees.{Source}
-use Rattle.src_tree.specs.Limits.{words_of}
+use Rattle.src_tree.specs.Prelude.{Source, words_of}
 use Rattle.bank_alloc.specs.declared.classes.Class.{Class}
 use Rattle.bank_alloc.specs.declared.classes.Class.TheVariants.{ObliviousArray}
-use Rattle.bank_alloc.specs.Classes.{class_of}
-use Rattle.bank_alloc.specs.Fits.{scalars_of, ScalarsFit}
-use Rattle.bank_alloc.specs.PlaceRules.{is_same, class_count, blocks_in_turn}
-use Rattle.bank_alloc.specs.Places.{blocks_for, places_of, bank_count, blocks_needed}
+use Rattle.bank_alloc.specs.Prelude.{class_of, scalars_of, ScalarsFit, is_same, class_count, blocks_in_turn, blocks_for, places_of, bank_count, blocks_needed}
 use Rattle.bank_alloc.proofs.Placed.{banks_need}
 use Rattle.resident_alloc.specs.declared.wants.Want.{Want}
-use Rattle.resident_alloc.specs.Residents.{wants_of}
-use Rattle.resident_alloc.specs.ResidentPlan.{in_oblivious_banks, resident_banks, resident_blocks}
-use Rattle.resident_alloc.specs.ResidentPlan as resident
+use Rattle.resident_alloc.specs.Prelude.{wants_of, in_oblivious_banks, resident_banks, resident_blocks}
 use Rattle.compiled_objects.specs.declared.errors.CompileError.{CompileError}
-use Rattle.compiled_objects.specs.declared.errors.CompileError.TheVariants as room
 use Rattle.call_replies.specs.declared.source_faults.SourceFault.{SourceFault}
-use Rattle.call_steps.specs.Compiled.{HasRoom, LacksRoom, room_fault}
+use Rattle.call_steps.specs.Prelude.{HasRoom, LacksRoom, room_fault}
+use Rattle.resident_alloc.specs.ResidentPlan as resident
+use Rattle.compiled_objects.specs.declared.errors.CompileError.TheVariants as room
 
 some-once : {A : Type 0} (x : Option A) (a b : A) → x ≡ Some a → x ≡ Some b → a ≡ b
 some-once {A = A} x a b e f = let g : ◌≡◌ {A = Option A} (Some a) (Some b) = sym e ∙ f in cc

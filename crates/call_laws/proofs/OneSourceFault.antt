@@ -3,40 +3,32 @@ use Rattle.std.proofs.Common.{◌≡◌, ◌≢◌, ◌∙◌, ℕ, Bool, true, 
 use Rattle.src_lexer.specs.declared.tokens.TokenKind.{TokenKind}
 use Rattle.src_lexer.specs.declared.tokens.Token.{Token}
 use Rattle.src_lexer.specs.declared.errors.LexError.{LexError}
-use Rattle.src_lexer.specs.Splits.{Lexed, Splits}
+use Rattle.src_lexer.specs.Prelude.{Lexed, Splits}
 use Rattle.src_lexer.proofs.OneReading.{one_reading, same_tokens}
-use Rattle.src_parser.specs.Grammar.{Limits, limits, Sentence}
-use Rattle.src_parser.specs.Refusals.{token_kinds}
-use Rattle.src_parser.specs.Tokenwise.{Begins, Stray, Deeper, Cut}
+use Rattle.src_parser.specs.Prelude.{Limits, limits, Sentence, token_kinds, Begins, Stray, Deeper, Cut, ExplainsTokens}
 use Rattle.src_parser.specs.declared.errors.ParseError.{ParseError}
-use Rattle.src_parser.specs.declared.errors.ParseError.TheVariants as error
-use Rattle.src_parser.specs.Explained.{ExplainsTokens}
 use Rattle.src_parser.proofs.OneProgram.{one_program}
 use Rattle.src_parser.proofs.OneRefusal.{one_stray, one_deeper, stray_or_deeper, stray_or_cut, deeper_or_cut}
 use Rattle.src_parser.proofs.Places.{stray, deeper, cut}
 use Rattle.src_parser.proofs.Refused.{program_laws}
 use Rattle.src_parser.proofs.Tokenwise.{next_begins}
-use Rattle.procs_parser.specs.FileGrammar.{SpellsFile}
-use Rattle.procs_parser.specs.FileRefusals.{ExplainsFile}
+use Rattle.procs_parser.specs.Prelude.{SpellsFile, ExplainsFile}
 use Rattle.procs_parser.proofs.FileLaws.{file_laws}
 use Rattle.procs_parser.proofs.ReadFiles.{file_read}
-use Rattle.src_procs.specs.Inlined.{inlined_file}
-use Rattle.src_procs.specs.Trees.{File}
-use Rattle.src_procs.specs.CallCauses.{IsFirstCallFault, ExplainsInlining}
+use Rattle.src_procs.specs.Prelude.{inlined_file, File, IsFirstCallFault, ExplainsInlining}
 use Rattle.src_procs.specs.declared.errors.InlineError.{InlineError}
-use Rattle.src_procs.specs.declared.errors.InlineError.TheVariants as calls
 use Rattle.src_procs.proofs.CallCauses.{one-cause}
-use Rattle.src_tree.specs.Trees.{Source}
-use Rattle.src_tree.specs.FirstFault.{first_fault}
+use Rattle.src_tree.specs.Prelude.{Source, first_fault}
 use Rattle.src_tree.specs.declared.faults.TypeError.{TypeError}
-use Rattle.src_tree.specs.declared.faults.TypeError.TheVariants as program
 use Rattle.src_tree.proofs.FirstFaults.{caused}
 use Rattle.src_tree.proofs.Faultless.{faultless}
-use Rattle.flow_types.specs.Refusals.{ExplainsProgram}
+use Rattle.flow_types.specs.Prelude.{ExplainsProgram}
 use Rattle.call_replies.specs.declared.source_faults.SourceFault.{SourceFault}
-use Rattle.call_laws.specs.OneAnswer.{OneSource}
-use Rattle.call_steps.specs.Questions.{IsRight, WhichSource}
-use Rattle.call_steps.specs.Sources.{AreProgram, Spells, SpellsTyped, IsFileFault, NoFile, InCalls, IsTokensFault, IsFirstSourceFault, InPieces, InTokens, InProgram, piece_fault, token_fault, shown_call_fault, program_fault}
+use Rattle.call_laws.specs.Prelude.{OneSource}
+use Rattle.call_steps.specs.Prelude.{IsRight, WhichSource, AreProgram, Spells, SpellsTyped, IsFileFault, NoFile, InCalls, IsTokensFault, IsFirstSourceFault, InPieces, InTokens, InProgram, piece_fault, token_fault, shown_call_fault, program_fault}
+use Rattle.src_parser.specs.declared.errors.ParseError.TheVariants as error
+use Rattle.src_procs.specs.declared.errors.InlineError.TheVariants as calls
+use Rattle.src_tree.specs.declared.faults.TypeError.TheVariants as program
 
 some-once : {A : Type 0} (x : Option A) (a b : A) → x ≡ Some a → x ≡ Some b → a ≡ b
 some-once {A = A} x a b e f = let g : ◌≡◌ {A = Option A} (Some a) (Some b) = sym e ∙ f in cc
@@ -92,10 +84,8 @@ of-tokens (error.TooDeep at) tokens h = deeper h
 of-tokens error.Memory tokens h = tt
 
 of-file : (e : ParseError) (tokens : List Token) → ExplainsFile e tokens → ExplainsBy SpellsFile e tokens
-of-file (error.Unexpected at) tokens h = h
-of-file error.EndOfText tokens h = h
-of-file (error.TooDeep at) tokens h = h
 of-file error.Memory tokens h = tt
+of-file other tokens h = h
 
 module _ {P : Type 0} (S : Limits → List TokenKind → P → Type 0) (tokens : List Token) where
   error-once : (a b : ParseError) → ExplainsBy S a tokens → ExplainsBy S b tokens → a ≢ error.Memory

@@ -3,9 +3,7 @@ use Rattle.std.proofs.Common.{◌≡◌, ℕ, List, [], ◌∷◌, ◌++◌, Opt
 use Rattle.std.proofs.lemmas.List.{append-nil, map-append}
 use Rattle.src_lexer.specs.declared.tokens.TokenKind.{TokenKind}
 use Rattle.src_lexer.specs.declared.tokens.Token.{Token}
-use Rattle.src_parser.specs.Grammar.{Limits, limits}
-use Rattle.src_parser.specs.Refusals.{token_kinds}
-use Rattle.src_parser.specs.Tokenwise.{Advance, Goes, Wrong, TooMuch, advances, Stray, Deeper, Cut}
+use Rattle.src_parser.specs.Prelude.{Limits, limits, token_kinds, Advance, Goes, Wrong, TooMuch, advances, Stray, Deeper, Cut}
 use Rattle.src_parser.proofs.Tokenwise.{Laws, begins, wrong_begins, much_begins, wider_begins, one_more_advance, whole_sentence, no_sentence}
 
 pub data Outcome {P : Type 0} (Sentence : Limits → List TokenKind → P → Type 0) (tokens : List Token) : Type 0 where

@@ -7,51 +7,40 @@ use Rattle.std.proofs.lemmas.List.Elements.{All-nil, All-cons, All-head, All-tai
 use Rattle.std.proofs.lemmas.List.Sorted.{length_permutation}
 use Rattle.std.proofs.Math.Nat.{mul-le-mul_left}
 use Rattle.std.proofs.Math.Pow.{pow_mono}
-use Rattle.gr_base.specs.Lists.{Within}
-use Rattle.gr_word.specs.Names.{is_name}
-use Rattle.gr_word.specs.declared.variables.Shape.TheVariants as shape
+use Rattle.gr_base.specs.Prelude.{Within}
+use Rattle.gr_word.specs.Prelude.{is_name}
 use Rattle.lt_isa.specs.declared.profiles.BankSpec.{BankSpec}
 use Rattle.lt_isa.specs.declared.profiles.Latencies.{Latencies}
 use Rattle.lt_isa.specs.declared.profiles.Profile.{Profile}
 use Rattle.lt_isa.specs.declared.symbols.Symbol.{Symbol}
-use Rattle.lt_isa.specs.Limits.{most_latency}
-use Rattle.lt_isa.specs.Object.{Parts, is_eram, is_ram}
-use Rattle.lt_isa.specs.Ranges.{IsInRange, ProfileFits}
+use Rattle.lt_isa.specs.Prelude.{most_latency, Parts, is_eram, is_ram, IsInRange, ProfileFits}
 use Rattle.lt_isa.proofs.SymbolPlaces.{most_blocks-le}
 use Rattle.src_tree.specs.declared.trees.Decl.{Decl}
-use Rattle.src_tree.specs.Limits.{IsWithinLimits}
-use Rattle.src_tree.specs.Meaning.{variable_number}
-use Rattle.src_tree.specs.Trees.{Source}
-use Rattle.src_tree.specs.Typing.{IsTyped}
+use Rattle.src_tree.specs.Prelude.{IsWithinLimits, variable_number, Source, IsTyped}
 use Rattle.src_tree.proofs.VariableNumbers.{number-below}
 use Rattle.bank_alloc.specs.declared.places.Place.{Place}
-use Rattle.bank_alloc.specs.Keys.{symbol_key}
-use Rattle.bank_alloc.specs.Layout.{AreSymbolsAt, placed_symbols}
+use Rattle.bank_alloc.specs.Prelude.{symbol_key, AreSymbolsAt, placed_symbols}
 use Rattle.bank_alloc.proofs.BankSizes.{banks_fit}
 use Rattle.bank_alloc.proofs.SymbolOrder.{length-symbols_at, symbols_in_range, symbols_sorted}
-use Rattle.scratch_alloc.specs.Plans.{Plan, IsSoundPlan, IsSoundByPin, pin_of_slot, no_decl, no_place}
+use Rattle.scratch_alloc.specs.Prelude.{Plan, IsSoundPlan, IsSoundByPin, pin_of_slot, no_decl, no_place}
 use Rattle.scratch_alloc.proofs.PlanPlaces.{plan_places}
 use Rattle.scratch_alloc.proofs.Serving.{serves-within}
 use Rattle.held_registers.specs.declared.registers.Held.{Held}
 use Rattle.held_registers.specs.declared.registers.Held.TheVariants.{Number, Scalar}
-use Rattle.held_registers.specs.Held.{IsSoundHeld}
-use Rattle.block_cache_gen.specs.Homes.{Pin, Setting, no_home}
-use Rattle.block_cache_gen.specs.ProgramWords.{BlockHasWords}
-use Rattle.block_cache_gen.specs.ServedBlocks.{block_served}
-use Rattle.block_cache_gen.specs.Settings.{homes_at, setting_for}
+use Rattle.held_registers.specs.Prelude.{IsSoundHeld}
+use Rattle.block_cache_gen.specs.Prelude.{Pin, Setting, no_home, BlockHasWords, block_served, homes_at, setting_for}
 use Rattle.block_cache_gen.proofs.HeldBeginning.{held-at}
 use Rattle.block_cache_gen.proofs.HomesOfFrames.{further-low}
 use Rattle.block_cache_gen.proofs.RangesOfCode.{HomeFits, HomesFit}
 use Rattle.block_cache_gen.proofs.ServedBlocks.{served-home, first-all}
 use Rattle.block_cache_gen.proofs.Settled.{get_or-homes_at, length-homes_at, place-length}
-use Rattle.compiled_objects.specs.Compiles.{LatenciesFit, latency_for}
-use Rattle.code_gen.specs.Emitted.{padding_of}
-use Rattle.code_gen.specs.Made.{banks_from, IsMadeOf}
-use Rattle.code_gen.specs.Programs.{program_code, program_notes}
+use Rattle.compiled_objects.specs.Prelude.{LatenciesFit, latency_for}
+use Rattle.code_gen.specs.Prelude.{padding_of, banks_from, IsMadeOf, program_code, program_notes}
 use Rattle.code_gen.proofs.Assembled.{blocks-made}
 use Rattle.code_gen.proofs.ScalarsNumbered.{scalar-numbered}
 use Rattle.code_gen.proofs.RangesOfPrograms.{FirstFit, HeldFit, PinsInEight, program-size, program-fits, notes-fit, notes-few, notes-inside}
 use Rattle.call_laws.proofs.SortedLists.{sorted-some}
+use Rattle.gr_word.specs.declared.variables.Shape.TheVariants as shape
 
 -- the block of a variable is in its bank
 block-low : (size block word length blocks : ℕ) → block * size + word + length ≤ blocks * size → 1 ≤ length

@@ -4,15 +4,12 @@ use Rattle.std.specs.Prelude.{MatchOption}
 use Rattle.std.specs.Option.{option_map}
 use Rattle.std.specs.FinMap.{get, remove}
 use Rattle.std.proofs.lemmas.Bool.{cases_eq}
-use Rattle.gr_base.specs.Counts.{Rose}
-use Rattle.gr_base.specs.Added.{Adds, AddsLess}
-use Rattle.gr_outside.specs.Shelf.{Files, ShelfSeen, SameBut, with_file}
-use Rattle.gr_outside.specs.Sink.{SinkSeen}
+use Rattle.gr_base.specs.Prelude.{Rose, Adds, AddsLess}
+use Rattle.gr_outside.specs.Prelude.{Files, ShelfSeen, SameBut, with_file, SinkSeen}
 use Rattle.call_replies.specs.declared.replies.Verdict.{Verdict}
-use Rattle.call_replies.specs.Texts.{Said, usage, unread, verdict_status}
-use Rattle.call_steps.specs.Work.{Work, Ending, IsUnread, IsTooLong, IsVerdict, IsWritten, MayEnd, Holds, said_at, files_at}
-use Rattle.call_steps.specs.Outside.{Outside, Gives, PutsSaid, OnlyReads, Unread, Long, Judged, Written, NotWritten, Starved, Explains, NoWork, NoRoom, Worked}
-use Rattle.call_laws.specs.Promises.{Answers, NoAnswer, AnswersSo, IsAnswered, IsUnreadable, ReadFailed, WriteFailed, NoMemory, IsCalm, OnlyOutput, StandsAtFour, OfAnswer, UnreadCut, NoMemoryCut, IsDone}
+use Rattle.call_replies.specs.Prelude.{Said, usage, unread, verdict_status}
+use Rattle.call_steps.specs.Prelude.{Work, Ending, IsUnread, IsTooLong, IsVerdict, IsWritten, MayEnd, Holds, said_at, files_at, Outside, Gives, PutsSaid, OnlyReads, Unread, Long, Judged, Written, NotWritten, Starved, Explains, NoWork, NoRoom, Worked}
+use Rattle.call_laws.specs.Prelude.{Answers, NoAnswer, AnswersSo, IsAnswered, IsUnreadable, ReadFailed, WriteFailed, NoMemory, IsCalm, OnlyOutput, StandsAtFour, OfAnswer, UnreadCut, NoMemoryCut, IsDone}
 use Rattle.gr_outside.proofs.WrittenFiles.{remove_with_file}
 use Rattle.call_steps.proofs.Endings.{plain, names, ToldTo, Same, Unreadable, told}
 use Rattle.call_steps.proofs.Progressing.{reads-of, same-only}
@@ -303,9 +300,7 @@ told-of files seen before now work ending is comes =
 
 abbrev name-of : Ending → Option (List ℕ)
 name-of (IsUnread name) = Some name
-name-of (IsTooLong name limit) = None
-name-of (IsVerdict seen verdict) = None
-name-of (IsWritten name bytes done) = None
+name-of other = None
 
 -- an ending that isn't that of an unread file comes from the told files
 answered : {files : Files} {before now : ℕ} {work : Work} {ending : Ending}

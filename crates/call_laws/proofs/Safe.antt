@@ -1,18 +1,14 @@
 -- Whatever object is checked for work that is done is oblivious, that of each core of a bus too.
 use Rattle.std.proofs.Common.{◌≡◌, ◌≢◌, inl, inr, ℕ, ◌+◌, ◌<◌, List, [], ◌∷◌, Contains, Option, Some, None, subst, arith}
-use Rattle.gr_outside.specs.Shelf.{Files}
-use Rattle.lt_isa.specs.Object.{Parts}
-use Rattle.lt_isa.specs.Start.{wants_of}
-use Rattle.call_replies.specs.Texts.{Said}
-use Rattle.call_steps.specs.Work.{Work, Ending, MayEnd, Holds, said_at}
-use Rattle.call_steps.specs.Steps.{with_accepted, with_inputs}
-use Rattle.bus_arbiter.specs.Refusals.{refusal}
-use Rattle.bus_arbiter.specs.Shares.{share_of}
+use Rattle.gr_outside.specs.Prelude.{Files}
+use Rattle.lt_isa.specs.Prelude.{Parts, wants_of}
+use Rattle.call_replies.specs.Prelude.{Said}
+use Rattle.call_steps.specs.Prelude.{Work, Ending, MayEnd, Holds, said_at, with_accepted, with_inputs, Outside, Explains}
+use Rattle.bus_arbiter.specs.Prelude.{refusal, share_of}
 use Rattle.bus_arbiter.proofs.TransferLists.{in-cases, in-none}
-use Rattle.command_words.specs.Pairs.{Pair}
-use Rattle.machine_verbs.specs.Bus.{Read, bus_work, none_read, on_plan, one_read, shares_bus, with_cores}
-use Rattle.call_steps.specs.Outside.{Outside, Explains}
-use Rattle.call_laws.specs.Promises.{Answers, NoAnswer, AnswersSo, CallLaws, IsDone, IsSafe, PromisesFollow}
+use Rattle.command_words.specs.Prelude.{Pair}
+use Rattle.machine_verbs.specs.Prelude.{Read, bus_work, none_read, on_plan, one_read, shares_bus, with_cores}
+use Rattle.call_laws.specs.Prelude.{Answers, NoAnswer, AnswersSo, CallLaws, IsDone, IsSafe, PromisesFollow}
 use Rattle.call_laws.proofs.DoneWork.{checked-on, given-on, planned-on}
 use Rattle.call_laws.proofs.CompiledFiles.{compiled-of}
 use Rattle.call_laws.proofs.Inferring.{inferred-of}

@@ -1,12 +1,9 @@
 -- What a sample that is done leaves, and how else it ends.
 use Rattle.std.proofs.Common.{◌≡◌, ◌≢◌, ◌⊎◌, inl, inr, Bool, false, ℕ, ◌<◌, List, Option, Some, None, refl, sym, ap, ◌∙◌, subst, arith}
-use Rattle.gr_outside.specs.Shelf.{Files}
-use Rattle.call_steps.specs.Histogram.{Made, IsMade, sample_target, sample_text}
-use Rattle.call_steps.specs.Outside.{Outside, Gives, Explains, NoWork, NoRoom, Worked, Unread, Long, Judged, Written, NotWritten, Starved}
-use Rattle.call_laws.specs.Promises.{Answers, NoAnswer, AnswersSo, IsDone, IsWrittenFor}
-use Rattle.call_laws.specs.Sample.{on_sampled, sample_work, samples_on}
-use Rattle.call_replies.specs.Texts.{Said}
-use Rattle.call_steps.specs.Work.{Work, Ending, IsUnread, IsTooLong, IsVerdict, MayEnd, Holds, said_at, files_at}
+use Rattle.gr_outside.specs.Prelude.{Files}
+use Rattle.call_steps.specs.Prelude.{Made, IsMade, sample_target, sample_text, Outside, Gives, Explains, NoWork, NoRoom, Worked, Unread, Long, Judged, Written, NotWritten, Starved, Work, Ending, IsUnread, IsTooLong, IsVerdict, MayEnd, Holds, said_at, files_at}
+use Rattle.call_laws.specs.Prelude.{Answers, NoAnswer, AnswersSo, IsDone, IsWrittenFor, on_sampled, sample_work, samples_on}
+use Rattle.call_replies.specs.Prelude.{Said}
 use Rattle.call_laws.proofs.Behind.{behind-it}
 use Rattle.call_laws.proofs.CompiledRuns.{compiled-runs}
 use Rattle.call_laws.proofs.CompiledTexts.{compiled-texts}

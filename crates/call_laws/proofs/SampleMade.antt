@@ -2,51 +2,39 @@
 use Rattle.std.proofs.Common.{◌≡◌, inl, inr, Bool, true, false, ℕ, ◌^◌, ◌<◌, ◌≤◌, List, [], Option, Some, None, Result, Ok, Err, length, sym, ◌∙◌, subst, arith, length-append}
 use Rattle.std.specs.Prelude.{codes, decimal, ◌++◌}
 use Rattle.std.proofs.lemmas.Fmt.{length-decimal-le}
-use Rattle.gr_base.specs.Lists.{Within}
+use Rattle.gr_base.specs.Prelude.{Within}
 use Rattle.gr_word.specs.declared.variables.Label.TheVariants.{Public, Secret}
 use Rattle.call_steps.specs.declared.targets.Target.{Target}
-use Rattle.lt_isa.specs.Object.{Parts}
-use Rattle.lt_isa.specs.Ranges.{IsInRange}
-use Rattle.object_file.specs.Spelling.{spelling}
+use Rattle.lt_isa.specs.Prelude.{Parts, IsInRange}
+use Rattle.object_file.specs.Prelude.{spelling}
 use Rattle.object_file.proofs.ObjectLaws.{spelling-injective}
-use Rattle.trace_patterns.specs.Accepts.{Accepts}
+use Rattle.trace_patterns.specs.Prelude.{Accepts}
 use Rattle.trace_patterns.specs.declared.reasons.Reason.{Reason}
 use Rattle.lt_checker.proofs.AcceptanceLaws.{refused_is_not_accepted}
 use Rattle.src_lexer.specs.declared.tokens.Token.{Token}
 use Rattle.src_lexer.proofs.OneReading.{same_tokens}
-use Rattle.src_parser.specs.Explained.{ExplainsTokens}
-use Rattle.src_parser.specs.Grammar.{limits, Sentence}
-use Rattle.src_parser.specs.Refusals.{token_kinds}
+use Rattle.src_parser.specs.Prelude.{ExplainsTokens, limits, Sentence, token_kinds}
 use Rattle.src_parser.specs.declared.errors.ParseError.{ParseError}
-use Rattle.src_parser.specs.declared.errors.ParseError.TheVariants as token
 use Rattle.src_parser.proofs.OneProgram.{one_program, no_fault}
 use Rattle.src_parser.proofs.Places.{next_begins}
-use Rattle.src_tree.specs.Trees.{Source}
-use Rattle.src_tree.specs.FirstFault.{first_fault}
+use Rattle.src_tree.specs.Prelude.{Source, first_fault}
 use Rattle.src_tree.specs.declared.faults.TypeError.{TypeError}
-use Rattle.src_tree.specs.declared.faults.TypeError.TheVariants as program
 use Rattle.src_tree.proofs.Faultless.{faultless}
 use Rattle.src_tree.proofs.FirstFaults.{caused}
-use Rattle.flow_types.specs.Refusals.{ExplainsProgram}
+use Rattle.flow_types.specs.Prelude.{ExplainsProgram}
 use Rattle.compiled_objects.specs.declared.errors.CompileError.{CompileError}
-use Rattle.compiled_objects.specs.declared.errors.CompileError.TheVariants as room
 use Rattle.call_replies.specs.declared.replies.Done.TheVariants.{Compiled}
 use Rattle.call_replies.specs.declared.replies.Verdict.{Verdict}
 use Rattle.call_replies.specs.declared.source_faults.SourceFault.{SourceFault}
-use Rattle.call_steps.specs.Compile.{on_compiled}
-use Rattle.call_steps.specs.Compiled.{IsCompiledTo, LacksRoom, room_fault}
-use Rattle.call_steps.specs.Histogram.{sample_text, sample_target}
-use Rattle.call_steps.specs.Progress.{EndsWorkWith}
-use Rattle.call_steps.specs.Questions.{IsRight, WhichSource, WhichCompiled, WhetherAccepted}
-use Rattle.call_laws.specs.SampleTree.{sample_program}
-use Rattle.call_steps.specs.Showing.{nothing_seen}
-use Rattle.call_steps.specs.Sources.{SpellsTyped, IsFirstSourceFault, InPieces, InTokens, InProgram, token_fault, program_fault, source_limit}
+use Rattle.call_steps.specs.Prelude.{on_compiled, IsCompiledTo, LacksRoom, room_fault, sample_text, sample_target, EndsWorkWith, IsRight, WhichSource, WhichCompiled, WhetherAccepted, nothing_seen, SpellsTyped, IsFirstSourceFault, InPieces, InTokens, InProgram, token_fault, program_fault, source_limit, on_judged, or_ends, Work, Ends, Writes}
+use Rattle.call_laws.specs.Prelude.{sample_program}
 use Rattle.call_replies.specs.declared.replies.Verdict.TheVariants.{BadSource}
-use Rattle.call_steps.specs.Steps.{on_judged, or_ends}
-use Rattle.call_replies.specs.Texts.{Said, no_memory}
-use Rattle.call_steps.specs.Work.{Work, Ends, Writes}
+use Rattle.call_replies.specs.Prelude.{Said, no_memory}
 use Rattle.call_laws.proofs.SampleProgram.{sample_typed, sample_within, sample_fits, sample_needs, resident_needs}
 use Rattle.call_laws.proofs.SampleText.{sample_spells}
+use Rattle.src_parser.specs.declared.errors.ParseError.TheVariants as token
+use Rattle.src_tree.specs.declared.faults.TypeError.TheVariants as program
+use Rattle.compiled_objects.specs.declared.errors.CompileError.TheVariants as room
 
 -- ---- the text
 

@@ -5,20 +5,17 @@ use Rattle.std.specs.List.{AllByRecursion}
 use Rattle.std.proofs.Math.Nat.{min-zero}
 use Rattle.std.proofs.lemmas.Bool.{ne_eqb}
 use Rattle.std.proofs.lemmas.List.Sums.{sum_by-cons}
-use Rattle.gr_base.specs.Lists.{Within}
+use Rattle.gr_base.specs.Prelude.{Within}
 use Rattle.gr_word.specs.declared.variables.Label.TheVariants.{Public, Secret}
-use Rattle.lt_isa.specs.Limits.{most_blocks}
-use Rattle.src_tree.specs.Limits.{IsWithinLimits}
-use Rattle.src_tree.specs.Typing.{IsTyped}
-use Rattle.bank_alloc.specs.Fits.{Fits}
-use Rattle.bank_alloc.specs.Places.{is_array, blocks_for, blocks_needed, blocks_taken, first_block, places_behind, places_of}
+use Rattle.lt_isa.specs.Prelude.{most_blocks}
+use Rattle.src_tree.specs.Prelude.{IsWithinLimits, IsTyped}
+use Rattle.bank_alloc.specs.Prelude.{Fits, is_array, blocks_for, blocks_needed, blocks_taken, first_block, places_behind, places_of}
 use Rattle.bank_alloc.specs.declared.classes.Class.{Class}
 use Rattle.bank_alloc.specs.declared.classes.Class.TheVariants.{EncryptedArray, ObliviousArray}
 use Rattle.bank_alloc.specs.declared.places.Place.{Place}
 use Rattle.resident_alloc.specs.declared.wants.Want.{Want}
-use Rattle.resident_alloc.specs.Residents.{blocks_of_all, is_of, left_out, own_most, room_for, wants_of}
-use Rattle.resident_alloc.specs.ResidentPlan.{blocks_in_turn, own_secret, resident_blocks, without_short}
-use Rattle.call_laws.specs.SampleTree.{sample_program}
+use Rattle.resident_alloc.specs.Prelude.{blocks_of_all, is_of, left_out, own_most, room_for, wants_of, blocks_in_turn, own_secret, resident_blocks, without_short}
+use Rattle.call_laws.specs.Prelude.{sample_program}
 
 -- the sample's program is well typed
 pub sample_typed : (n : ℕ) → IsTyped (sample_program n)

@@ -2,22 +2,19 @@
 use Rattle.std.proofs.Common.{◌≡◌, inr, ℕ, ◌+◌, ◌^◌, ◌<◌, pos, Bool, true, false, cond, List, [], ◌∷◌, ◌++◌, length, refl, sym, ap, subst, arith, Some, Ok}
 use Rattle.std.specs.Prelude.{codes, decimal, ◌==◌, slice_index}
 use Rattle.std.specs.List.{list_all}
-use Rattle.gr_word.specs.Names.{is_name_byte}
+use Rattle.gr_word.specs.Prelude.{is_name_byte}
 use Rattle.gr_word.specs.declared.operations.Op.TheVariants.{Add, Rem}
 use Rattle.gr_word.specs.declared.operations.Cmp.TheVariants.{Lt}
 use Rattle.gr_word.specs.declared.variables.Label.TheVariants.{Public, Secret}
 use Rattle.src_lexer.specs.declared.tokens.TokenKind.{TokenKind}
-use Rattle.src_lexer.specs.declared.tokens.TokenKind.TheVariants as kind
 use Rattle.src_lexer.specs.declared.tokens.Token.{Token}
-use Rattle.src_lexer.specs.Pieces.{Is, Apart, is_white, letter_run_of, word_run, number_run, sign_of, pair_of}
-use Rattle.src_lexer.specs.Splits.{Splits, Ends, Blank, Word, Single, token_at}
-use Rattle.src_parser.specs.Grammar.{limits, Writes, Numeral, Named, Indexed, Joined, Compared, Sets, Puts, Repeats, NoMore, Scalar, Array, Sentence, Program}
-use Rattle.src_parser.specs.Grammar as grammar
-use Rattle.src_parser.specs.Refusals.{token_kinds}
-use Rattle.src_parser.specs.Source.{SpellsSource}
+use Rattle.src_lexer.specs.Prelude.{Is, Apart, is_white, letter_run_of, word_run, number_run, sign_of, pair_of, Splits, Ends, Blank, Word, Single, token_at}
+use Rattle.src_parser.specs.Prelude.{limits, Writes, Numeral, Named, Indexed, Joined, Compared, Sets, Puts, Repeats, NoMore, Scalar, Array, Sentence, Program, token_kinds, SpellsSource}
 use Rattle.src_parser.proofs.LoneTokens.{number_run_of}
-use Rattle.call_steps.specs.Histogram.{sample_text}
-use Rattle.call_laws.specs.SampleTree.{sample_program, sample_turn}
+use Rattle.call_steps.specs.Prelude.{sample_text}
+use Rattle.call_laws.specs.Prelude.{sample_program, sample_turn}
+use Rattle.src_lexer.specs.declared.tokens.TokenKind.TheVariants as kind
+use Rattle.src_parser.specs.Grammar as grammar
 
 -- ---- bytes that are these tokens, wherever they begin
 

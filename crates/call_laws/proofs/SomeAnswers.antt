@@ -5,83 +5,56 @@ use Rattle.std.specs.Option.{option_map_or}
 use Rattle.std.specs.FinMap.{get}
 use Rattle.std.specs.List.{list_all}
 use Rattle.std.proofs.lemmas.Bool.{cases_lt}
-use Rattle.gr_base.specs.Lists.{Within}
-use Rattle.gr_outside.specs.Shelf.{Files}
+use Rattle.gr_base.specs.Prelude.{Within}
+use Rattle.gr_outside.specs.Prelude.{Files}
 use Rattle.gr_word.specs.declared.variables.Want.{Want}
-use Rattle.lt_isa.specs.Machine.{Observed, RamRead, RamWrite, EncRead, EncWrite, Oram, Halted}
-use Rattle.lt_isa.specs.Object.{Parts}
-use Rattle.lt_isa.specs.Ranges.{IsInRange, ProfileFits}
-use Rattle.lt_isa.specs.Start.{FitsObject, trace, wants_of}
-use Rattle.lt_isa.specs.Trace.{HaltsAt, Stamped, seen_at}
+use Rattle.lt_isa.specs.Prelude.{Observed, RamRead, RamWrite, EncRead, EncWrite, Oram, Halted, Parts, IsInRange, ProfileFits, FitsObject, trace, wants_of, HaltsAt, Stamped, seen_at}
 use Rattle.lt_isa.proofs.Variables.{wants_are_variables}
-use Rattle.trace_patterns.specs.Accepts.{Accepts, FirstRefusal}
+use Rattle.trace_patterns.specs.Prelude.{Accepts, FirstRefusal}
 use Rattle.trace_patterns.specs.declared.reasons.Reason.{Reason}
-use Rattle.flow_types.specs.Wants.{declared_wants}
-use Rattle.src_tree.specs.Meaning.{meaning}
-use Rattle.src_tree.specs.Trees.{Source}
+use Rattle.flow_types.specs.Prelude.{declared_wants}
+use Rattle.src_tree.specs.Prelude.{meaning, Source}
 use Rattle.lt_checker.proofs.AcceptanceLaws.{accepted-or-refused}
-use Rattle.lt_assembler.specs.Assembled.{assembled}
-use Rattle.lt_assembler.specs.Canonical.{canonical}
+use Rattle.lt_assembler.specs.Prelude.{assembled, canonical}
 use Rattle.lt_assembler.specs.declared.errors.AsmError.{AsmError}
 use Rattle.lt_assembler.proofs.FirstFaulty.{first_fault}
 use Rattle.lt_assembler.proofs.Spelled.{assembled-spells}
-use Rattle.object_file.specs.Reading.{decoded}
-use Rattle.object_file.specs.Spelling.{spelling}
+use Rattle.object_file.specs.Prelude.{decoded, spelling}
 use Rattle.object_file.specs.declared.errors.DecodeError.{DecodeError}
 use Rattle.object_file.proofs.FaultLaws.{decoded-first}
 use Rattle.object_file.proofs.Numbers.{IsBytes-All}
 use Rattle.object_file.proofs.ObjectLaws.{spelling-decoded}
-use Rattle.run_data.specs.InputsOf.{json_of, inputs_of, inputs_in, unless_fault, first_input_fault, named_fault, value_fault, list_fault, or_else, listed_values, has_length, is_word}
+use Rattle.run_data.specs.Prelude.{json_of, inputs_of, inputs_in, unless_fault, first_input_fault, named_fault, value_fault, list_fault, or_else, listed_values, has_length, is_word}
 use Rattle.run_data.specs.declared.errors.InputError.{InputError}
-use Rattle.run_data.specs.declared.errors.InputError.TheVariants as error
 use Rattle.run_data.proofs.ReadWords.{inputs_fit}
 use Rattle.bus_arbiter.specs.declared.errors.BusError.{BusError}
-use Rattle.bus_arbiter.specs.Laws.{runs_of, traces_on as all_traces}
-use Rattle.bus_arbiter.specs.Refusals.{refusal}
-use Rattle.bus_arbiter.specs.Shares.{IsPlan, share_of}
-use Rattle.bus_arbiter.specs.Transfers.{IsJoined, joined_of}
+use Rattle.bus_arbiter.specs.Prelude.{runs_of, refusal, IsPlan, share_of, IsJoined, joined_of}
+use Rattle.bus_arbiter.specs.Laws.{traces_on as all_traces}
 use Rattle.bus_arbiter.proofs.JoinedLaws.{worked-out}
 use Rattle.bus_arbiter.proofs.PlannedRuns.{on-bus, plan-none, plan-takes, traces-same}
 use Rattle.serde_json.specs.Data.{Data, Members, no_members, member}
 use Rattle.serde_json.specs.Find.{as_object}
 use Rattle.note_infer.proofs.Answered.{Answered, Gets, Fails, answered}
 use Rattle.call_replies.specs.declared.replies.Done.{Done}
-use Rattle.call_replies.specs.declared.replies.Done.TheVariants as made
 use Rattle.call_replies.specs.declared.replies.InputFault.{InputFault}
-use Rattle.call_replies.specs.declared.replies.InputFault.TheVariants as fault
 use Rattle.call_replies.specs.declared.replies.Verdict.{Verdict}
-use Rattle.call_replies.specs.declared.replies.Verdict.TheVariants as verdict
 use Rattle.call_replies.specs.declared.source_faults.SourceFault.{SourceFault}
 use Rattle.call_steps.specs.declared.targets.Target.{Target}
-use Rattle.call_laws.specs.Assemble.{assemble_work}
-use Rattle.command_words.specs.Pairs.{Pair}
-use Rattle.machine_verbs.specs.Bus.{Read, bus_work, none_read, on_plan, one_read, shares_bus, with_cores, with_halts}
-use Rattle.call_laws.specs.Check.{check_work}
-use Rattle.call_steps.specs.Compile.{compile_work, on_compiled}
-use Rattle.call_laws.specs.Disassemble.{disassemble_work}
-use Rattle.call_laws.specs.Evaluate.{evaluate_work, evaluates_on, on_left}
-use Rattle.call_steps.specs.Histogram.{Made, figures_of, sample_cycles, sample_inputs}
-use Rattle.call_laws.specs.Infer.{infer_work, infers_to, on_inferred}
-use Rattle.call_replies.specs.NameText.{name_text}
-use Rattle.call_steps.specs.Objects.{object_limit}
-use Rattle.call_laws.specs.OneAnswer.{AreBytes, HasSomeAnswer, SomeAnswer}
-use Rattle.call_laws.specs.Promises.{AnswersSo}
-use Rattle.call_steps.specs.Questions.{Answer, AreInputs, IsRight, Question, WhatIsInferred, WhatIsJoined, WhatIsLeft, WhatIsMade, WhatIsShown, WhenItHalts, WhetherAccepted, WhichAssembly, WhichCompiled, WhichInputs, WhichObject, WhichSource}
-use Rattle.machine_verbs.specs.Run.{on_halt, run_work, runs_on}
-use Rattle.call_steps.specs.Runs.{HaltOf}
-use Rattle.call_laws.specs.Sample.{on_sampled, sample_work, samples_on}
-use Rattle.machine_verbs.specs.Sharing.{AreRead}
-use Rattle.call_steps.specs.Showing.{Seen, events_alone, nothing_seen}
-use Rattle.call_steps.specs.Sources.{SpellsTyped, source_limit}
-use Rattle.call_steps.specs.Steps.{input_limit, on_judged, or_ends, text_limit, with_accepted, with_assembly, with_inputs, with_object, with_source, with_variables}
-use Rattle.machine_verbs.specs.Trace.{shows_on, trace_work, traces_on}
-use Rattle.call_steps.specs.Work as work
-use Rattle.call_steps.specs.Work.{Asks, Ended, Ending, Ends, Found, Holds, IsTooLong, IsUnread, IsVerdict, IsWritten, MayEnd, Missing, Reads, TooLong, Work, Writes, Wrote, files_at, said_at}
+use Rattle.call_laws.specs.Prelude.{assemble_work, check_work, disassemble_work, evaluate_work, evaluates_on, on_left, infer_work, infers_to, on_inferred, AreBytes, HasSomeAnswer, SomeAnswer, AnswersSo, on_sampled, sample_work, samples_on}
+use Rattle.command_words.specs.Prelude.{Pair}
+use Rattle.machine_verbs.specs.Prelude.{Read, bus_work, none_read, on_plan, one_read, shares_bus, with_cores, with_halts, on_halt, run_work, runs_on, AreRead, shows_on, trace_work, traces_on}
+use Rattle.call_steps.specs.Prelude.{compile_work, on_compiled, Made, figures_of, sample_cycles, sample_inputs, object_limit, Answer, AreInputs, IsRight, Question, WhatIsInferred, WhatIsJoined, WhatIsLeft, WhatIsMade, WhatIsShown, WhenItHalts, WhetherAccepted, WhichAssembly, WhichCompiled, WhichInputs, WhichObject, WhichSource, HaltOf, Seen, events_alone, nothing_seen, SpellsTyped, source_limit, input_limit, on_judged, or_ends, text_limit, with_accepted, with_assembly, with_inputs, with_object, with_source, with_variables, Asks, Ended, Ending, Ends, Found, Holds, IsTooLong, IsUnread, IsVerdict, IsWritten, MayEnd, Missing, Reads, TooLong, Work, Writes, Wrote, files_at, said_at}
+use Rattle.call_replies.specs.Prelude.{name_text}
 use Rattle.machine_verbs.proofs.Pairing.{none-read, one-read}
 use Rattle.call_laws.proofs.SomeObjects.{compiled-some, program-fits}
 use Rattle.call_laws.proofs.SomePaths.{shown-in-trees-some, shown-some}
 use Rattle.call_laws.proofs.SomeSamples.{made-some}
 use Rattle.call_laws.proofs.SomeSources.{source-some}
+use Rattle.run_data.specs.declared.errors.InputError.TheVariants as error
+use Rattle.call_replies.specs.declared.replies.Done.TheVariants as made
+use Rattle.call_replies.specs.declared.replies.InputFault.TheVariants as fault
+use Rattle.call_replies.specs.declared.replies.Verdict.TheVariants as verdict
+use Rattle.call_steps.specs.Work as work
 
 -- ---- inputs: that memory ran out is no fault of a text
 
@@ -175,11 +148,7 @@ inputs-some wants json = by (inputs_of wants (json_of json)) refl
 
 halted-or-not : (e : Observed) → (e ≡ Halted) ⊎ (e ≡ Halted → ⊥)
 halted-or-not Halted = inl refl
-halted-or-not (RamRead a words) = inr (λ e. absurd cc)
-halted-or-not (RamWrite a words) = inr (λ e. absurd cc)
-halted-or-not (EncRead a) = inr (λ e. absurd cc)
-halted-or-not (EncWrite a) = inr (λ e. absurd cc)
-halted-or-not (Oram bank) = inr (λ e. absurd cc)
+halted-or-not other = inr (λ e. absurd cc)
 
 abbrev HaltOrNot : List Stamped → Type 0
 HaltOrNot events = ((at : ℕ) × HaltsAt events at) ⊎ ((at : ℕ) → HaltsAt events at → ⊥)

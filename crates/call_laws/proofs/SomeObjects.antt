@@ -2,36 +2,28 @@
 use Rattle.std.proofs.Common.{ℕ, ◌+◌, ◌*◌, ◌^◌, ◌<◌, ◌≤◌, ℤ, Bool, true, false, List, [], length, ◌⊎◌, inl, inr, Result, Ok, Err, refl, sym, subst, arith}
 use Rattle.std.proofs.Math.Facts.{sfits_to_z}
 use Rattle.std.proofs.Math.Pow.{pow_mono}
-use Rattle.gr_word.specs.Words.{IsWord}
+use Rattle.gr_word.specs.Prelude.{IsWord}
 use Rattle.gr_word.specs.declared.operations.Op.{Op}
 use Rattle.gr_word.proofs.Words.{IsWord-applied}
-use Rattle.lt_isa.specs.Object.{usual_latencies}
-use Rattle.lt_isa.specs.Ranges.{ProfileFits}
-use Rattle.object_file.specs.Spelling.{spelling}
-use Rattle.src_tree.specs.Limits.{IsWithinLimits, weight_of}
-use Rattle.src_tree.specs.Trees.{Tree, Number, Variable, Element, Operation, Test, Statement, SetVariable, SetElement, Choice, Loop, Block, Nothing, Then, Source}
-use Rattle.src_tree.specs.Typing.{IsTyped}
-use Rattle.scratch_alloc.specs.Plans.{standard_plan}
+use Rattle.lt_isa.specs.Prelude.{usual_latencies, ProfileFits}
+use Rattle.object_file.specs.Prelude.{spelling}
+use Rattle.src_tree.specs.Prelude.{IsWithinLimits, weight_of, Tree, Number, Variable, Element, Operation, Test, Statement, SetVariable, SetElement, Choice, Loop, Block, Nothing, Then, Source, IsTyped}
+use Rattle.scratch_alloc.specs.Prelude.{standard_plan}
 use Rattle.scratch_alloc.proofs.StandardPlan.{standard_sound_at}
-use Rattle.source_folding.specs.Folded.{folded, folded_block, folded_source, folded_statement, folded_test, mask_of}
-use Rattle.source_folding.specs.Numbers.{BlockNumbersFit, NumbersFit, StatementNumbersFit}
+use Rattle.source_folding.specs.Prelude.{folded, folded_block, folded_source, folded_statement, folded_test, mask_of, BlockNumbersFit, NumbersFit, StatementNumbersFit}
 use Rattle.source_folding.proofs.FoldedPrograms.{folded-source_typed, folded-within}
 use Rattle.source_folding.proofs.FoldedTrees.{IsPower, Made, AsBefore, Computed, Swapped, Shifted, SwappedShift, Masked, is-made}
 use Rattle.held_registers.proofs.Sound.{nothing-sound}
-use Rattle.block_cache_gen.specs.ProgramWords.{BlockHasWords, StatementHasWords}
-use Rattle.block_cache_gen.specs.TreeWords.{HasWords, TestHasWords}
+use Rattle.block_cache_gen.specs.Prelude.{BlockHasWords, StatementHasWords, HasWords, TestHasWords}
 use Rattle.block_cache_gen.proofs.RangesOfCode.{small-word}
-use Rattle.compiled_objects.specs.Compiles.{LatenciesFit}
-use Rattle.compiled_objects.specs.FastLayout.{fast_plan}
-use Rattle.compiled_objects.specs.HeldNumbers.{held_for}
+use Rattle.compiled_objects.specs.Prelude.{LatenciesFit, fast_plan, held_for}
 use Rattle.code_gen.proofs.Assembled.{made-promises}
 use Rattle.compiled_objects.proofs.FastPlans.{fast-sound, fast-secret_slot}
 use Rattle.code_gen.proofs.HeldNumbers.{held_for-sound, places-fit}
 use Rattle.code_gen.proofs.FoldedPlans.{folded-implements, folded-laid, folded-short, folded-sound}
 use Rattle.call_replies.specs.declared.source_faults.SourceFault.{SourceFault}
 use Rattle.call_steps.specs.declared.targets.Target.{Target}
-use Rattle.call_steps.specs.Compiled.{HasRoom, IsCompiled, IsCompiledTo}
-use Rattle.call_steps.specs.Sources.{Spells}
+use Rattle.call_steps.specs.Prelude.{HasRoom, IsCompiled, IsCompiledTo, Spells}
 use Rattle.call_laws.proofs.FittingFiles.{file-fits}
 use Rattle.call_laws.proofs.FittingPrograms.{ProgramFits, sentence-fits}
 use Rattle.call_laws.proofs.FittingTokens.{tokens-fit}

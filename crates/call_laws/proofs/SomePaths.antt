@@ -2,28 +2,18 @@
 use Rattle.std.proofs.Common.{◌≡◌, ℕ, ◌+◌, ◌-◌, ◌*◌, ◌<◌, ◌≤◌, ℤ, List, [], length, map, get_or, Option, refl, sym, ◌∙◌, subst, arith}
 use Rattle.std.specs.List.{range_with_len}
 use Rattle.std.proofs.lemmas.List.FromFn.{get_or-map-range_with_len, length-map-range_with_len}
-use Rattle.lt_isa.specs.Object.{Parts, blocks_of}
-use Rattle.lt_isa.specs.Ranges.{IsInRange}
-use Rattle.lt_isa.specs.Start.{FitsObject, start_state, trace}
+use Rattle.lt_isa.specs.Prelude.{Parts, blocks_of, IsInRange, FitsObject, start_state, trace}
 use Rattle.lt_isa.proofs.Starts.{IsShaped-start}
 use Rattle.banks.specs.declared.bank.Leaves.{Leaves}
-use Rattle.banks.specs.Banks.{one_leaf}
-use Rattle.banks.specs.ObliviousEvents.{accesses_shown}
+use Rattle.banks.specs.Prelude.{one_leaf, accesses_shown}
 use Rattle.banks.proofs.AccessBounds.{accesses-counted, blocks-exist}
-use Rattle.processor.specs.Watching.{with_paths}
-use Rattle.path_oram.specs.LeavesAlike.{touched}
-use Rattle.path_oram.specs.Settles.{Settles}
-use Rattle.path_oram.specs.Words.{first_words}
-use Rattle.path_oram.specs.WordsRead.{leaves_shown}
+use Rattle.processor.specs.Prelude.{with_paths}
+use Rattle.path_oram.specs.Prelude.{touched, Settles, first_words, leaves_shown}
 use Rattle.path_oram.proofs.Ahead.{length-first_words}
 use Rattle.path_oram.proofs.Existing.{settles_somehow, some_height}
-use Rattle.recursive_oram.specs.RecLeaves.{Size, rec_leaves, words_made}
+use Rattle.recursive_oram.specs.Prelude.{Size, rec_leaves, words_made}
 use Rattle.recursive_oram.proofs.Counted.{some_sizes}
-use Rattle.call_steps.specs.Paths.{IsShown, OfBank, words_drawn}
-use Rattle.call_steps.specs.PathsShown.{paths_of_bank}
-use Rattle.call_steps.specs.RecursivePaths.{IsShownInTrees}
-use Rattle.call_steps.specs.Seeds.{seeded_words}
-use Rattle.call_steps.specs.Showing.{Seen, run_seen}
+use Rattle.call_steps.specs.Prelude.{IsShown, OfBank, words_drawn, paths_of_bank, IsShownInTrees, seeded_words, Seen, run_seen}
 use Rattle.machine_verbs.proofs.PathsShown.{leaf-count, paths-with_paths, rec-leaf-count, shows-with_paths}
 
 module _ (o : Parts) (range : IsInRange o) (inputs : List (List ℤ)) (fits : FitsObject o inputs) (cycles seed : ℕ) where

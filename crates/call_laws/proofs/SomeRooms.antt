@@ -2,18 +2,16 @@
 use Rattle.std.proofs.Common.{◌≡◌, ℕ, zero, suc, ◌^◌, ◌<◌, ◌≤◌, Bool, true, false, ◌⊎◌, inl, inr, Some, Err, refl, subst, arith}
 use Rattle.std.proofs.lemmas.Bool.{cases_lt}
 use Rattle.gr_word.specs.declared.variables.Label.TheVariants.{Public, Secret}
-use Rattle.lt_isa.specs.Limits.{most_blocks}
-use Rattle.src_tree.specs.Trees.{Source}
-use Rattle.bank_alloc.specs.Fits.{ScalarsFit, scalars_of}
-use Rattle.bank_alloc.specs.Places.{bank_count, blocks_needed, places_of}
-use Rattle.resident_alloc.specs.ResidentPlan.{resident_banks, resident_blocks}
-use Rattle.resident_alloc.specs.Residents.{wants_of}
+use Rattle.lt_isa.specs.Prelude.{most_blocks}
+use Rattle.src_tree.specs.Prelude.{Source}
+use Rattle.bank_alloc.specs.Prelude.{ScalarsFit, scalars_of, bank_count, blocks_needed, places_of}
+use Rattle.resident_alloc.specs.Prelude.{resident_banks, resident_blocks, wants_of}
 use Rattle.compiled_objects.specs.declared.errors.CompileError.{CompileError}
 use Rattle.compiled_objects.specs.declared.errors.CompileError.TheVariants.{BankFull, TooManyScalars}
 use Rattle.call_replies.specs.declared.source_faults.SourceFault.{SourceFault}
-use Rattle.call_replies.specs.declared.source_faults.SourceFault.TheVariants as fault
 use Rattle.call_steps.specs.declared.targets.Target.{Target}
-use Rattle.call_steps.specs.Compiled.{HasRoom, IsCompiled, LacksRoom, room_fault}
+use Rattle.call_steps.specs.Prelude.{HasRoom, IsCompiled, LacksRoom, room_fault}
+use Rattle.call_replies.specs.declared.source_faults.SourceFault.TheVariants as fault
 
 -- the banks below a number have room, or one is the first that lacks it
 data Banks (most needed : ℕ → ℕ) (n : ℕ) : Type 0 where

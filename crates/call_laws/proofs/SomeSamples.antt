@@ -1,12 +1,10 @@
 -- There is a sample for each number of items.
 use Rattle.std.proofs.Common.{Bool, false, ℕ, List, Result, Ok, Err, arith}
-use Rattle.gr_base.specs.Lists.{Within}
-use Rattle.lt_isa.specs.Ranges.{ProfileFits}
+use Rattle.gr_base.specs.Prelude.{Within}
+use Rattle.lt_isa.specs.Prelude.{ProfileFits}
 use Rattle.call_replies.specs.declared.source_faults.SourceFault.{SourceFault}
-use Rattle.call_steps.specs.Compiled.{IsCompiled}
-use Rattle.call_steps.specs.Histogram.{IsMade, Made, sample_profile, sample_target, sample_text}
-use Rattle.call_laws.specs.SampleTree.{sample_program}
-use Rattle.call_steps.specs.Sources.{SpellsTyped}
+use Rattle.call_steps.specs.Prelude.{IsCompiled, IsMade, Made, sample_profile, sample_target, sample_text, SpellsTyped}
+use Rattle.call_laws.specs.Prelude.{sample_program}
 use Rattle.call_laws.proofs.SampleMade.{no-room_fault}
 use Rattle.call_laws.proofs.SampleProgram.{sample_typed, sample_within}
 use Rattle.call_laws.proofs.SampleText.{sample_spells}

@@ -2,37 +2,32 @@
 use Rattle.std.proofs.Common.{◌≡◌, ℕ, Bool, true, false, List, Option, Some, None, Result, Ok, Err, refl}
 use Rattle.src_lexer.specs.declared.tokens.Token.{Token}
 use Rattle.src_lexer.specs.declared.errors.LexError.{LexError}
-use Rattle.src_lexer.specs.declared.errors.LexError.TheVariants as piece
-use Rattle.src_lexer.specs.Splits.{Splits}
-use Rattle.src_parser.specs.Grammar.{limits, Sentence}
-use Rattle.src_parser.specs.Refusals.{token_kinds}
-use Rattle.src_parser.specs.declared.errors.ParseError.TheVariants as token
+use Rattle.src_lexer.specs.Prelude.{Splits}
+use Rattle.src_parser.specs.Prelude.{limits, Sentence, token_kinds}
 use Rattle.src_parser.proofs.Places.{unexpected, too_deep, cut_short}
 use Rattle.src_parser.proofs.Refused.{program_laws}
-use Rattle.procs_parser.specs.FileGrammar.{SpellsFile}
+use Rattle.procs_parser.specs.Prelude.{SpellsFile}
 use Rattle.procs_parser.proofs.FileLaws.{file_laws}
 use Rattle.procs_parser.proofs.PlainNames.{file_plain}
-use Rattle.src_procs.specs.Inlined.{inlined_file}
-use Rattle.src_procs.specs.InlineFaults.{inline_fault}
-use Rattle.src_procs.specs.Trees.{File}
+use Rattle.src_procs.specs.Prelude.{inlined_file, inline_fault, File}
 use Rattle.src_procs.specs.declared.errors.InlineError.{InlineError}
-use Rattle.src_procs.specs.declared.errors.InlineError.TheVariants as calls
 use Rattle.src_procs.proofs.CallCauses.{cause as call-cause, not-caused}
-use Rattle.src_procs.proofs.Judged as files
-use Rattle.src_tree.specs.FirstFault.{first_fault}
-use Rattle.src_tree.specs.Trees.{Source}
+use Rattle.src_tree.specs.Prelude.{first_fault, Source}
 use Rattle.src_tree.specs.declared.faults.TypeError.{TypeError}
-use Rattle.src_tree.specs.declared.faults.TypeError.TheVariants as program
 use Rattle.src_tree.proofs.Faultless.{fine}
 use Rattle.src_tree.proofs.FirstFaults.{cause}
 use Rattle.flow_types.proofs.Judged.{explained}
 use Rattle.call_replies.specs.declared.source_faults.SourceFault.{SourceFault}
-use Rattle.call_replies.specs.declared.source_faults.SourceFault.TheVariants as fault
-use Rattle.call_steps.specs.Questions.{IsRight, WhichSource}
-use Rattle.call_steps.specs.Sources.{Spells, NoFile, InCalls, InPieces, InTokens, InProgram, piece_fault, program_fault, shown_call_fault}
+use Rattle.call_steps.specs.Prelude.{IsRight, WhichSource, Spells, NoFile, InCalls, InPieces, InTokens, InProgram, piece_fault, program_fault, shown_call_fault}
 use Rattle.call_laws.proofs.LexedTexts.{IsTold as IsToldPiece, Reading, Reads, Fails, reading}
 use Rattle.call_laws.proofs.ParsedTokens.{Outcome, IsSentence, IsStray, IsDeeper, IsCut, outcome}
 use Rattle.call_laws.proofs.ToldFaults.{IsTold, IsToldCall, type-told, inline-told}
+use Rattle.src_lexer.specs.declared.errors.LexError.TheVariants as piece
+use Rattle.src_parser.specs.declared.errors.ParseError.TheVariants as token
+use Rattle.src_procs.specs.declared.errors.InlineError.TheVariants as calls
+use Rattle.src_procs.proofs.Judged as files
+use Rattle.src_tree.specs.declared.faults.TypeError.TheVariants as program
+use Rattle.call_replies.specs.declared.source_faults.SourceFault.TheVariants as fault
 
 piece-shown : (e : LexError) → IsToldPiece e → (shown : SourceFault) × (piece_fault e ≡ Some shown)
 piece-shown (piece.BadByte at) told = (fault.Byte at, refl)

@@ -1,26 +1,19 @@
 -- A source text gives one program or one fault, so the work on it has one answer, but for the free choice of an object.
 use Rattle.std.proofs.Common.{◌≡◌, ◌∙◌, ℕ, ℤ, Bool, List, inl, Option, Some, None, Result, Ok, Err, refl, sym, ap, subst}
 use Rattle.std.specs.FinMap.{remove}
-use Rattle.gr_outside.specs.Shelf.{Files, with_file}
+use Rattle.gr_outside.specs.Prelude.{Files, with_file}
 use Rattle.gr_outside.proofs.WrittenFiles.{remove_with_file}
 use Rattle.gr_word.specs.declared.variables.Want.{Want}
 use Rattle.call_steps.specs.declared.targets.Target.{Target}
-use Rattle.src_tree.specs.Trees.{Source}
-use Rattle.flow_types.specs.Wants.{declared_wants}
+use Rattle.src_tree.specs.Prelude.{Source}
+use Rattle.flow_types.specs.Prelude.{declared_wants}
 use Rattle.call_replies.specs.declared.replies.Done.TheVariants.{Compiled}
 use Rattle.call_replies.specs.declared.replies.InputFault.{InputFault}
 use Rattle.call_replies.specs.declared.source_faults.SourceFault.{SourceFault}
-use Rattle.call_steps.specs.Compile.{compile_work, compiles_to, on_compiled}
-use Rattle.call_laws.specs.Evaluate.{evaluate_work, evaluates_on, on_left}
-use Rattle.call_laws.specs.OneAnswer.{AreOneBut, DoneBut, HasOneAnswerBut, OneAnswer, Same}
-use Rattle.call_laws.specs.Promises.{Answers, AnswersSo, IsDone, NoAnswer}
-use Rattle.call_replies.specs.Texts.{Said, usage, wrote}
-use Rattle.call_steps.specs.Questions.{IsRight, WhatIsLeft, WhichCompiled, WhichInputs, WhichSource}
-use Rattle.call_steps.specs.Showing.{nothing_seen}
-use Rattle.call_steps.specs.Sources.{source_limit}
+use Rattle.call_steps.specs.Prelude.{compile_work, compiles_to, on_compiled, IsRight, WhatIsLeft, WhichCompiled, WhichInputs, WhichSource, nothing_seen, source_limit, input_limit, or_ends, with_source, with_variables, Asks, Ending, Holds, IsVerdict, IsWritten, MayEnd, Work, files_at, said_at}
+use Rattle.call_laws.specs.Prelude.{evaluate_work, evaluates_on, on_left, AreOneBut, DoneBut, HasOneAnswerBut, OneAnswer, Same, Answers, AnswersSo, IsDone, NoAnswer}
+use Rattle.call_replies.specs.Prelude.{Said, usage, wrote}
 use Rattle.call_replies.specs.declared.replies.Verdict.TheVariants.{BadInput, BadSource}
-use Rattle.call_steps.specs.Steps.{input_limit, or_ends, with_source, with_variables}
-use Rattle.call_steps.specs.Work.{Asks, Ending, Holds, IsVerdict, IsWritten, MayEnd, Work, files_at, said_at}
 use Rattle.call_laws.proofs.OneAnswers.{AnswerOf, Once, assemble-once, bus-once, check-once, disassemble-once, infer-once, one-answer, run-once, trace-once, answer-of, asks-once, ends-once, inputs-once, of-told, reads-once, same-ending, writes-once}
 use Rattle.call_laws.proofs.OneRoom.{room-once, room-or-not}
 use Rattle.call_laws.proofs.OneSourceFault.{source-once}

@@ -5,18 +5,13 @@ use Rattle.gr_word.specs.declared.variables.Label.{Label}
 use Rattle.gr_word.specs.declared.variables.Label.TheVariants.{Public}
 use Rattle.gr_word.specs.declared.variables.Shape.{Shape}
 use Rattle.gr_word.specs.declared.variables.Shape.TheVariants.{Scalar, Array}
-use Rattle.src_tree.specs.Trees as plain
-use Rattle.src_tree.specs.Trees.{Tree, Number, Variable, Element, Operation, Test, Source}
-use Rattle.src_tree.specs.Causes.{IsFirstFault, NamedAgain, IllTyped, ManyVariables, BadLength, ManyWords, HighExpression, HeavyBody}
-use Rattle.src_tree.specs.Contexts.{Context, context_of}
-use Rattle.src_tree.specs.Labels.{higher, secret_label, label_at, label_of, label_of_test}
-use Rattle.src_tree.specs.FirstFault.{where_true, kind_fault, use_fault, names_fault, leaks, has_leaking_index, flow_fault, guard_fault, loop_fault, typing_fault, height_fault, too_high, same_shape, shown_place, shown_number, StatementFault, IsFirstAt}
+use Rattle.src_tree.specs.Prelude.{Tree, Number, Variable, Element, Operation, Test, Source, IsFirstFault, NamedAgain, IllTyped, ManyVariables, BadLength, ManyWords, HighExpression, HeavyBody, Context, context_of, higher, secret_label, label_at, label_of, label_of_test, where_true, kind_fault, use_fault, names_fault, leaks, has_leaking_index, flow_fault, guard_fault, loop_fault, typing_fault, height_fault, too_high, same_shape, shown_place, shown_number, StatementFault, IsFirstAt}
 use Rattle.src_tree.specs.declared.faults.TypeError.{TypeError}
-use Rattle.src_tree.specs.declared.faults.TypeError.TheVariants as program
 use Rattle.src_tree.specs.declared.faults.Which.TheVariants.{Height}
-use Rattle.src_procs.specs.CallCauses.{FoundCall, ProcedureFault, RepeatsName, UsesOther, CallFault, CallsNone, CountDiffers, PassesOther, IsFirstCallFault, InProcedure, InCall, TooMany}
-use Rattle.src_procs.specs.Trees.{Procedure, File}
+use Rattle.src_procs.specs.Prelude.{FoundCall, ProcedureFault, RepeatsName, UsesOther, CallFault, CallsNone, CountDiffers, PassesOther, IsFirstCallFault, InProcedure, InCall, TooMany, Procedure, File}
 use Rattle.src_procs.specs.declared.errors.InlineError.{InlineError}
+use Rattle.src_tree.specs.Trees as plain
+use Rattle.src_tree.specs.declared.faults.TypeError.TheVariants as program
 use Rattle.src_procs.specs.declared.errors.InlineError.TheVariants as calls
 
 -- ---- types and limits
@@ -101,14 +96,10 @@ first-told fault told from k statements e first =
     subst ToldIn (first.there (Public, plain.SetVariable [] (Number (pos 0)))) (told _ _ _)
 
 pub type-told : (p : Source) (e : TypeError) → IsFirstFault p e → IsTold e
-type-told p e (NamedAgain k first) = tt
 type-told p e (IllTyped once k e' first) =
     first-told (typing_fault (context_of p.decls)) (typing-told (context_of p.decls)) 0 k _ e' first
-type-told p e (ManyVariables typed many) = tt
-type-told p e (BadLength typed few k first) = tt
-type-told p e (ManyWords typed few fit k first) = tt
 type-told p e (HighExpression typed few fit words k e' first) = first-told height_fault height-told 0 k _ e' first
-type-told p e (HeavyBody typed few fit words low heavy) = tt
+type-told p e other = tt
 
 -- ---- calls
 

@@ -14,3 +14,4 @@ pub mod Calls
 pub mod Verbs
 pub mod Headline
 pub mod HeadlineFollows
+pub mod Prelude

@@ -3,12 +3,10 @@ ghost use Rattle.call_laws.specs.Calls.{CallsAsMeant};
 ghost use Rattle.call_laws.specs.CompiledRuns.{CompiledRuns};
 ghost use Rattle.call_laws.specs.CompiledTexts.{CompiledTexts};
 ghost use Rattle.call_laws.specs.HeadlineFollows.{HeadlineFollows};
-ghost use Rattle.call_steps.specs.Inferred.{InferredOnce};
+ghost use Rattle.call_steps.specs.Prelude.{InferredOnce, TracesAgree, TextsAgree, IsTraceText};
 ghost use Rattle.call_laws.specs.OneAnswer.{OneAnswer, OneSource, SomeAnswer, TraceAgrees};
 ghost use Rattle.call_laws.specs.Promises.{PromisesFollow};
-ghost use Rattle.call_steps.specs.Runs.{TracesAgree, TextsAgree};
-ghost use Rattle.call_steps.specs.Showing.{IsTraceText};
-ghost use Rattle.command_words.specs.WordsAsk.{WordsAsk};
+ghost use Rattle.command_words.specs.Prelude.{WordsAsk};
 ghost use Rattle.call_laws.specs.Verbs.{works};
 
 /// Does nothing; its clauses are laws: if two runs of one oblivious object have inputs that agree on public values,

@@ -2,27 +2,27 @@
 use Rattle.std.specs.Prelude.{ℕ, true, false, List, [], ◌++◌, codes, decimal}
 use Rattle.std.specs.Fmt.{signed_decimal}
 use Rattle.object_file.specs.declared.errors.DecodeError.{DecodeError}
-use Rattle.object_file.specs.declared.errors.DecodeError.TheVariants as object
 use Rattle.trace_patterns.specs.Reasons.{reason_number}
 use Rattle.lt_assembler.specs.Words.{label_word}
 use Rattle.lt_assembler.specs.declared.errors.AsmError.{AsmError}
-use Rattle.lt_assembler.specs.declared.errors.AsmError.TheVariants as text
 use Rattle.bus_arbiter.specs.declared.errors.BusError.{BusError}
-use Rattle.bus_arbiter.specs.declared.errors.BusError.TheVariants as bus
 use Rattle.note_infer.specs.declared.faults.InferError.{InferError}
-use Rattle.note_infer.specs.declared.faults.InferError.TheVariants as notes
 use Rattle.src_tree.specs.declared.faults.Which.{Which}
 use Rattle.src_tree.specs.declared.faults.Which.TheVariants.{Variables, ArrayLength, TotalWords, Height, Weight}
 use Rattle.call_replies.specs.declared.source_faults.SourceFault.{SourceFault}
-use Rattle.call_replies.specs.declared.source_faults.SourceFault.TheVariants as source
 use Rattle.call_replies.specs.declared.replies.InputFault.{InputFault}
-use Rattle.call_replies.specs.declared.replies.InputFault.TheVariants as input
 use Rattle.call_replies.specs.declared.replies.Verdict.{Verdict}
 use Rattle.call_replies.specs.declared.replies.Verdict.TheVariants.{Accepted, Traced, Malformed, Refused, BadSource, BadInput, Spent, BadAssembly, OffBus, Shared, NoNotes}
 use Rattle.call_replies.specs.declared.replies.Done.{Done}
 use Rattle.call_replies.specs.declared.replies.Done.TheVariants.{Halted, Assembled, Disassembled, Evaluated, Compiled, Sampled, Inferred}
 use Rattle.call_replies.specs.declared.replies.Figures.{Figures}
 use Rattle.call_replies.specs.declared.replies.Reply.{Reply}
+use Rattle.object_file.specs.declared.errors.DecodeError.TheVariants as object
+use Rattle.lt_assembler.specs.declared.errors.AsmError.TheVariants as text
+use Rattle.bus_arbiter.specs.declared.errors.BusError.TheVariants as bus
+use Rattle.note_infer.specs.declared.faults.InferError.TheVariants as notes
+use Rattle.call_replies.specs.declared.source_faults.SourceFault.TheVariants as source
+use Rattle.call_replies.specs.declared.replies.InputFault.TheVariants as input
 use Rattle.call_replies.specs.declared.replies.Reply.TheVariants as reply
 
 -- why a file doesn't encode an object, and where

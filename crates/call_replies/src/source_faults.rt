@@ -1,5 +1,5 @@
 ghost use Rattle.std.specs.Prelude.{◌≡◌, Some};
-ghost use Rattle.lt_assembler.specs.Words.{label_word};
+ghost use Rattle.lt_assembler.specs.Prelude.{label_word};
 ghost use Rattle.call_replies.specs.Texts.{limit_name, source_fault};
 
 use gr_word::Label;

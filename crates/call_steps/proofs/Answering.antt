@@ -2,16 +2,12 @@
 use Rattle.std.proofs.Common.{◌≡◌, ◌⊎◌, inl, inr, ℕ, List, Option, Some, None, Result, Ok, Err, IfOk, IfErr, IsErrAnd, sym, ap, ◌∙◌, subst}
 use Rattle.std.specs.Prelude.{option_and_then}
 use Rattle.std.specs.Option.{option_map}
-use Rattle.gr_outside.specs.Shelf.{ShelfSeen}
-use Rattle.gr_outside.specs.Sink.{SinkSeen}
+use Rattle.gr_outside.specs.Prelude.{ShelfSeen, SinkSeen}
 use Rattle.call_replies.specs.declared.replies.Verdict.{Verdict}
 use Rattle.call_replies.specs.declared.replies.Reply.{Reply}
 use Rattle.call_replies.specs.declared.replies.Done.{Done}
-use Rattle.call_replies.specs.Texts.{Said, no_memory, said}
-use Rattle.call_steps.specs.Work.{Work, Ends, Writes, IsVerdict, IsWritten, Ended, Wrote, said_at}
-use Rattle.call_steps.specs.Outside.{Outside, outside, PutsSaid, LeftBy, Judged, Explains, NoWork, NoRoom, Worked}
-use Rattle.call_steps.specs.Showing.{Seen}
-use Rattle.call_steps.specs.Progress.{HasLeft, LeavesToSay, NothingAsked, NoRoomYet, WorkStops}
+use Rattle.call_replies.specs.Prelude.{Said, no_memory, said}
+use Rattle.call_steps.specs.Prelude.{Work, Ends, Writes, IsVerdict, IsWritten, Ended, Wrote, said_at, Outside, outside, PutsSaid, LeftBy, Judged, Explains, NoWork, NoRoom, Worked, Seen, HasLeft, LeavesToSay, NothingAsked, NoRoomYet, WorkStops}
 use Rattle.call_steps.proofs.Progressing.{stopped, same-only}
 
 -- ---- what is left to say

@@ -6,27 +6,15 @@ use Rattle.std.specs.Int.{w64, to_le_bytes}
 use Rattle.std.proofs.lemmas.Bool.{ltb-true}
 use Rattle.std.proofs.lemmas.List.{length-take-le}
 use Rattle.std.proofs.lemmas.List.Elements.{All-cons, All-nil}
-use Rattle.lt_isa.specs.Object.{Parts, block_words, blocks_of}
-use Rattle.lt_isa.specs.Ranges.{IsInRange}
-use Rattle.lt_isa.specs.Start.{start_bank}
+use Rattle.lt_isa.specs.Prelude.{Parts, block_words, blocks_of, IsInRange, start_bank}
 use Rattle.lt_isa.proofs.Cycles.{bank-fits}
 use Rattle.lt_isa.proofs.Starts.{length-start_bank}
-use Rattle.banks.specs.Banks.{one_leaf}
-use Rattle.banks.specs.Blocks.{Blocks}
-use Rattle.processor.specs.Starting.{starting_bank}
-use Rattle.path_oram.specs.Orams.{Oram, paths_ahead}
-use Rattle.path_oram.specs.Places.{first_places}
-use Rattle.path_oram.specs.Whole.{IsHeightFor}
-use Rattle.path_oram.specs.Words.{first_words, leaf_of, words_left}
-use Rattle.path_oram.specs.WordsRead.{leaves_shown}
-use Rattle.recursive_oram.specs.Levels.{shown_ahead}
-use Rattle.recursive_oram.specs.RecLeaves.{AreSizes, rec_leaves, size_of, words_made}
-use Rattle.recursive_oram.specs.RecursiveOrams.{Recursive, levels_of, all_trees}
-use Rattle.processor.specs.ObliviousBanks.{oram_of}
+use Rattle.banks.specs.Prelude.{one_leaf, Blocks}
+use Rattle.processor.specs.Prelude.{starting_bank, oram_of}
+use Rattle.path_oram.specs.Prelude.{Oram, paths_ahead, first_places, IsHeightFor, first_words, leaf_of, words_left, leaves_shown}
+use Rattle.recursive_oram.specs.Prelude.{shown_ahead, AreSizes, rec_leaves, size_of, words_made, Recursive, levels_of, all_trees}
 use Rattle.rand_chacha.specs.ChaCha.{ChaCha, of_seed}
-use Rattle.call_steps.specs.Seeds.{seeded_words, seed_bytes, stream_from}
-use Rattle.call_steps.specs.Beginning.{BankBegins, BeginFrom, RecursiveBegins}
-use Rattle.call_steps.specs.Levels.{OfOram}
+use Rattle.call_steps.specs.Prelude.{seeded_words, seed_bytes, stream_from, BankBegins, BeginFrom, RecursiveBegins, OfOram}
 
 module _ {B : Type 0} (Begins : ℕ → B → Type 0) where
   -- one bank more

@@ -1,12 +1,10 @@
 -- The calls of a shelf follow the work, step by step.
 use Rattle.std.proofs.Common.{◌≡◌, inl, inr, ℕ, Bool, true, false, List, [], ◌∷◌, Option, Some, sym, ap, ◌∙◌, subst}
 use Rattle.std.specs.Prelude.{option_and_then}
-use Rattle.gr_base.specs.Added.{Adds}
-use Rattle.gr_outside.specs.Shelf.{read_of}
+use Rattle.gr_base.specs.Prelude.{Adds}
+use Rattle.gr_outside.specs.Prelude.{read_of}
 use Rattle.call_replies.specs.declared.replies.Done.{Done}
-use Rattle.call_steps.specs.Work.{Work, Reads, Writes}
-use Rattle.call_steps.specs.CallsFollow.{Follows, StopsHere, ReadFails, ReadsOn, WritesLast, Makes, CallsOf, TriesRead, TriesWrite}
-use Rattle.call_steps.specs.Happened.{Log}
+use Rattle.call_steps.specs.Prelude.{Work, Reads, Writes, Follows, StopsHere, ReadFails, ReadsOn, WritesLast, Makes, CallsOf, TriesRead, TriesWrite, Log}
 
 -- a read that may have failed is the first call of a work that reads
 pub read-tried : (name : List ℕ) (limit : ℕ) (next : List ℕ → Work) (before after : Log)

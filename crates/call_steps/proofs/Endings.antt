@@ -1,14 +1,12 @@
 -- How a work may end: its statuses, the names in its endings, and its endings if the contents of files are known.
 use Rattle.std.proofs.Common.{◌≡◌, ◌⊎◌, inl, inr, ℕ, ◌≤◌, true, false, List, length, Option, Some, None, refl, arith}
 use Rattle.std.specs.FinMap.{get}
-use Rattle.gr_base.specs.Counts.{Rose}
-use Rattle.gr_outside.specs.Shelf.{Files}
+use Rattle.gr_base.specs.Prelude.{Rose}
+use Rattle.gr_outside.specs.Prelude.{Files}
 use Rattle.call_replies.specs.declared.replies.Verdict.{Verdict}
 use Rattle.call_replies.specs.declared.replies.Verdict.TheVariants.{Accepted, Traced, Malformed, Refused, BadSource, BadInput, Spent, BadAssembly, OffBus, Shared, NoNotes}
-use Rattle.call_replies.specs.Texts.{verdict_status}
-use Rattle.call_steps.specs.Questions.{Question, Answer, IsRight}
-use Rattle.call_steps.specs.Work.{Work, Reads, Asks, Ending, IsUnread, IsTooLong, IsVerdict, IsWritten, MayEnd, Ended, Wrote, Missing, TooLong, Found, Answered, Holds, MayRead, ReadsIt, ReadsLater, ReadsThen, MayWrite, WritesIt, WritesLater, WritesThen}
-use Rattle.call_steps.specs.Outside.{Gives}
+use Rattle.call_replies.specs.Prelude.{verdict_status}
+use Rattle.call_steps.specs.Prelude.{Question, Answer, IsRight, Work, Reads, Asks, Ending, IsUnread, IsTooLong, IsVerdict, IsWritten, MayEnd, Ended, Wrote, Missing, TooLong, Found, Answered, Holds, MayRead, ReadsIt, ReadsLater, ReadsThen, MayWrite, WritesIt, WritesLater, WritesThen, Gives}
 
 -- a verdict has no status of usage, files or memory
 pub plain : (verdict : Verdict) → (verdict_status verdict ≡ 0) ⊎ (6 ≤ verdict_status verdict)

@@ -3,15 +3,11 @@ use Rattle.std.proofs.Common.{◌≡◌, ℕ, zero, suc, ◌+◌, ◌^◌, ◌<�
 use Rattle.std.proofs.Math.Nat.{min-eq_left}
 use Rattle.std.proofs.lemmas.List.{append-nil}
 use Rattle.std.proofs.lemmas.List.Sums.{count_by-le-length, sum_by_push}
-use Rattle.lt_isa.specs.Machine.{Observed, State}
-use Rattle.lt_isa.specs.Object.{Parts}
-use Rattle.lt_isa.specs.Step.{StepResult, Goes, Stops, Faults, step, step_start}
-use Rattle.lt_isa.specs.Trace.{Stamped, seen_at, stamped, shown_then, trace_within, trace_from}
+use Rattle.lt_isa.specs.Prelude.{Observed, State, Parts, StepResult, Goes, Stops, Faults, step, step_start, Stamped, seen_at, stamped, shown_then, trace_within, trace_from}
 use Rattle.banks.specs.declared.bank.Leaves.{Leaves}
-use Rattle.processor.specs.Watching.{AnEvent, APath, TellsMore, events_in, with_paths}
-use Rattle.processor.specs.Keeping.{events_in-append}
+use Rattle.processor.specs.Prelude.{AnEvent, APath, TellsMore, events_in, with_paths, events_in-append}
 use Rattle.processor.proofs.TellingPaths.{events_in-with_paths}
-use Rattle.call_steps.specs.Counting.{CountsEvents, Counts, IsCountOf, counted, counted_all, how_many, is_plain, is_encrypted, is_second}
+use Rattle.call_steps.specs.Prelude.{CountsEvents, Counts, IsCountOf, counted, counted_all, how_many, is_plain, is_encrypted, is_second}
 use Rattle.call_steps.specs.declared.count_watch.CountWatch.{CountWatch}
 
 -- ---- one event, and a path

@@ -1,14 +1,10 @@
 -- From the bytes of a file to what they give.
 use Rattle.std.proofs.Common.{◌≡◌, ℕ, List, None, Result, Ok, Err, IfOk, OnOk, sym, subst}
-use Rattle.lt_isa.specs.Object.{Parts}
-use Rattle.trace_patterns.specs.Accepts.{Accepts}
+use Rattle.lt_isa.specs.Prelude.{Parts}
+use Rattle.trace_patterns.specs.Prelude.{Accepts}
 use Rattle.call_replies.specs.declared.replies.Reply.{Reply}
-use Rattle.call_replies.specs.Texts.{Said}
-use Rattle.call_steps.specs.Questions.{Question, Answer, IsRight, WhetherAccepted}
-use Rattle.call_steps.specs.Work.{Work, Reads, Asks}
-use Rattle.call_steps.specs.Steps.{on_judged, with_object, with_accepted}
-use Rattle.call_steps.specs.Progress.{EndsWorkWith}
-use Rattle.call_steps.specs.Reached.{Finds, FindsNone, HasReached, HasStopped, Stage}
+use Rattle.call_replies.specs.Prelude.{Said}
+use Rattle.call_steps.specs.Prelude.{Question, Answer, IsRight, WhetherAccepted, Work, Reads, Asks, on_judged, with_object, with_accepted, EndsWorkWith, Finds, FindsNone, HasReached, HasStopped, Stage}
 use Rattle.call_steps.proofs.Reaching.{with-answer, with-refusal}
 
 -- bytes with a result continue the work

@@ -1,19 +1,16 @@
 -- From the error of a text to its first fault.
 use Rattle.std.proofs.Common.{◌≡◌, inl, inr, Bool, true, false, ℕ, List, Option, Some, None, IfSome, sym, ap, ◌∙◌}
 use Rattle.src_lexer.specs.declared.tokens.Token.{Token}
-use Rattle.src_parser.specs.Explained.{ExplainsTokens}
-use Rattle.src_parser.specs.Source.{ExplainsText, ExplainsTextBy}
+use Rattle.src_parser.specs.Prelude.{ExplainsTokens, ExplainsText, ExplainsTextBy}
 use Rattle.src_parser.specs.declared.errors.ParseError.{ParseError}
 use Rattle.src_parser.specs.declared.errors.TextError.{TextError}
-use Rattle.src_parser.specs.declared.errors.TextError.TheVariants as text
-use Rattle.procs_parser.specs.FileRefusals.{ExplainsFile}
-use Rattle.procs_parser.specs.FileText.{ExplainsFileText, SpellsFileText}
-use Rattle.src_procs.specs.Trees.{File}
-use Rattle.src_procs.specs.CallCauses.{ExplainsInlining}
+use Rattle.procs_parser.specs.Prelude.{ExplainsFile, ExplainsFileText, SpellsFileText}
+use Rattle.src_procs.specs.Prelude.{File, ExplainsInlining}
 use Rattle.src_procs.specs.declared.errors.InlineError.{InlineError}
 use Rattle.call_replies.specs.declared.source_faults.SourceFault.{SourceFault}
-use Rattle.call_steps.specs.Sources.{IsFirstSourceFault, InTokens, IsTokensFault, NoFile, InCalls, token_fault, text_fault, shown_call_fault}
+use Rattle.call_steps.specs.Prelude.{IsFirstSourceFault, InTokens, IsTokensFault, NoFile, InCalls, token_fault, text_fault, shown_call_fault}
 use Rattle.call_steps.proofs.Saying.{piece-first}
+use Rattle.src_parser.specs.declared.errors.TextError.TheVariants as text
 
 -- by what an error says about tokens
 text-first : (procs : Bool) (Explains : ParseError → List Token → Type 0)

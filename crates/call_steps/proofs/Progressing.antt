@@ -3,15 +3,11 @@ use Rattle.std.proofs.Common.{◌≡◌, ◌⊎◌, inl, inr, ℕ, ◌+◌, ◌<
 use Rattle.std.specs.Option.{option_map}
 use Rattle.std.specs.FinMap.{get}
 use Rattle.std.proofs.lemmas.List.{length-take, take_all}
-use Rattle.gr_base.specs.Counts.{Rose}
-use Rattle.gr_outside.specs.Shelf.{Files, ShelfSeen, front_of}
-use Rattle.call_replies.specs.Texts.{Said, no_memory, unread, too_long}
+use Rattle.gr_base.specs.Prelude.{Rose}
+use Rattle.gr_outside.specs.Prelude.{Files, ShelfSeen, front_of}
+use Rattle.call_replies.specs.Prelude.{Said, no_memory, unread, too_long}
 use Rattle.call_replies.specs.declared.replies.Verdict.{Verdict}
-use Rattle.call_steps.specs.Questions.{Question, Answer, IsRight}
-use Rattle.call_steps.specs.Showing.{nothing_seen}
-use Rattle.call_steps.specs.Work.{Work, Ends, Reads, Asks, Ending, IsUnread, IsTooLong, IsVerdict, IsWritten, MayEnd, Ended, Missing, TooLong, Found, Answered, said_at}
-use Rattle.call_steps.specs.Outside.{Outside, Gives, PutsSaid, OnlyReads, LeavesShelf, LeavesUnread, LeftBy, Unread, Long, Judged, Explains, NoRoom, Worked}
-use Rattle.call_steps.specs.Progress.{HasLeft, Stops, NoRoomLeft, StopsAt, EndsWorkWith}
+use Rattle.call_steps.specs.Prelude.{Question, Answer, IsRight, nothing_seen, Work, Ends, Reads, Asks, Ending, IsUnread, IsTooLong, IsVerdict, IsWritten, MayEnd, Ended, Missing, TooLong, Found, Answered, said_at, Outside, Gives, PutsSaid, OnlyReads, LeavesShelf, LeavesUnread, LeftBy, Unread, Long, Judged, Explains, NoRoom, Worked, HasLeft, Stops, NoRoomLeft, StopsAt, EndsWorkWith}
 
 abbrev pub reads-of : ShelfSeen → ℕ
 reads-of s = s.read_faults

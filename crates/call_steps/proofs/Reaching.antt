@@ -1,18 +1,13 @@
 -- How far the steps of a verb's work come: a file that is read, a question with its right result, steps in sequence.
 use Rattle.std.proofs.Common.{◌≡◌, ℕ, true, List, [], ◌∷◌, Result, Ok, Err, IfErr, IsErrAnd, refl, sym, ap₂, ◌∙◌, subst}
-use Rattle.gr_base.specs.Added.{Adds}
-use Rattle.gr_outside.specs.Shelf.{read_of}
+use Rattle.gr_base.specs.Prelude.{Adds}
+use Rattle.gr_outside.specs.Prelude.{read_of}
 use Rattle.call_replies.specs.declared.replies.Done.{Done}
 use Rattle.call_replies.specs.declared.replies.Reply.{Reply}
 use Rattle.call_replies.specs.declared.replies.Reply.TheVariants.{NoMemory}
 use Rattle.call_replies.specs.declared.replies.Verdict.{Verdict}
-use Rattle.call_replies.specs.Texts.{Said, comes_to, no_memory, said}
-use Rattle.call_steps.specs.CallsFollow.{StopsHere, AsksOn, ReadsOn, TriesRead}
-use Rattle.call_steps.specs.Progress.{EndsWorkWith, HasLeft, NoRoomLeft, Stops}
-use Rattle.call_steps.specs.Questions.{Answer, IsRight, Question}
-use Rattle.call_steps.specs.Reached.{Finds, HasReached, HasStopped, Stage}
-use Rattle.call_steps.specs.Showing.{nothing_seen}
-use Rattle.call_steps.specs.Work.{Asks, Ends, Reads, Work, Writes}
+use Rattle.call_replies.specs.Prelude.{Said, comes_to, no_memory, said}
+use Rattle.call_steps.specs.Prelude.{StopsHere, AsksOn, ReadsOn, TriesRead, EndsWorkWith, HasLeft, NoRoomLeft, Stops, Answer, IsRight, Question, Finds, HasReached, HasStopped, Stage, nothing_seen, Asks, Ends, Reads, Work, Writes}
 use Rattle.call_steps.proofs.CallsMade.{read-tried}
 use Rattle.call_steps.proofs.Progressing.{ends-at, leads-later, leads-on, refused-stops, stops-later, same-only}
 

@@ -1,36 +1,28 @@
 -- From a fault to its line, and from events to the text of a trace.
 use Rattle.std.proofs.Common.{◌≡◌, ◌≢◌, ◌⊎◌, inl, inr, Bool, ℕ, zero, suc, ℤ, List, [], ◌∷◌, Option, Some, None, Err, IfSome, refl, sym, ap, ◌∙◌, arith}
 use Rattle.gr_word.specs.declared.variables.Want.{Want}
-use Rattle.lt_isa.specs.Object.{Parts}
-use Rattle.lt_isa.specs.Machine.{Observed, RamRead, RamWrite, EncRead, EncWrite, Oram, Halted}
-use Rattle.lt_isa.specs.Trace.{Stamped, seen_at, HaltsAt}
+use Rattle.lt_isa.specs.Prelude.{Parts, Observed, RamRead, RamWrite, EncRead, EncWrite, Oram, Halted, Stamped, seen_at, HaltsAt}
 use Rattle.object_file.specs.declared.errors.DecodeError.{DecodeError}
-use Rattle.object_file.specs.declared.errors.DecodeError.TheVariants as object
-use Rattle.object_file.specs.FirstFaults.{IsFirstObjectFault}
-use Rattle.lt_assembler.specs.FirstFaults.{IsFirstTextFault}
+use Rattle.object_file.specs.Prelude.{IsFirstObjectFault}
+use Rattle.lt_assembler.specs.Prelude.{IsFirstTextFault}
 use Rattle.lt_assembler.specs.declared.errors.AsmError.{AsmError}
-use Rattle.lt_assembler.specs.declared.errors.AsmError.TheVariants as text
-use Rattle.src_lexer.specs.Splits.{Splits}
+use Rattle.src_lexer.specs.Prelude.{Splits}
 use Rattle.src_lexer.specs.declared.errors.LexError.{LexError}
-use Rattle.src_lexer.specs.declared.errors.LexError.TheVariants as piece
-use Rattle.src_tree.specs.Trees.{Source}
-use Rattle.flow_types.specs.Refusals.{ExplainsProgram}
+use Rattle.src_tree.specs.Prelude.{Source}
+use Rattle.flow_types.specs.Prelude.{ExplainsProgram}
 use Rattle.src_tree.specs.declared.faults.TypeError.{TypeError}
-use Rattle.run_data.specs.InputsOf.{json_of, inputs_of}
-use Rattle.run_data.specs.TraceText.{trace_text_of}
+use Rattle.run_data.specs.Prelude.{json_of, inputs_of, trace_text_of}
 use Rattle.run_data.specs.declared.errors.InputError.{InputError}
-use Rattle.run_data.specs.declared.errors.InputError.TheVariants as input
 use Rattle.call_replies.specs.declared.replies.InputFault.{InputFault}
 use Rattle.call_replies.specs.declared.source_faults.SourceFault.{SourceFault}
-use Rattle.call_steps.specs.Sources.{Spells, IsFirstSourceFault, InPieces, InProgram, piece_fault, program_fault}
+use Rattle.call_steps.specs.Prelude.{Spells, IsFirstSourceFault, InPieces, InProgram, piece_fault, program_fault, WhichObject, WhichAssembly, WhichSource, WhichInputs, Shows, Work, or_ends, EndsWorkWith, SaysObject, SaysText, SaysSource, SaysInputs, TracesAgree, TextsAgree}
 use Rattle.call_replies.specs.declared.replies.Verdict.TheVariants.{Malformed, BadSource, BadInput, BadAssembly}
-use Rattle.call_replies.specs.Texts.{Said}
-use Rattle.call_steps.specs.Questions.{WhichObject, WhichAssembly, WhichSource, WhichInputs, Shows}
-use Rattle.call_steps.specs.Work.{Work}
-use Rattle.call_steps.specs.Steps.{or_ends}
-use Rattle.call_steps.specs.Progress.{EndsWorkWith, SaysObject, SaysText, SaysSource, SaysInputs}
-use Rattle.processor.specs.Ends.{NoHalt}
-use Rattle.call_steps.specs.Runs.{TracesAgree, TextsAgree}
+use Rattle.call_replies.specs.Prelude.{Said}
+use Rattle.processor.specs.Prelude.{NoHalt}
+use Rattle.object_file.specs.declared.errors.DecodeError.TheVariants as object
+use Rattle.lt_assembler.specs.declared.errors.AsmError.TheVariants as text
+use Rattle.src_lexer.specs.declared.errors.LexError.TheVariants as piece
+use Rattle.run_data.specs.declared.errors.InputError.TheVariants as input
 
 -- the line about bytes that don't encode an object names their first fault
 pub no-object : (bytes : List ℕ) (fault : DecodeError) (said : Said)
@@ -89,12 +81,7 @@ no-assembly bytes (text.OverLimit n) said fails says next =
 -- a fault that is shown isn't want of memory
 shown-not : (fault : InputError) (shown : InputFault) → Shows fault shown → fault ≢ input.Memory
 shown-not input.Memory shown shows e = absurd shows
-shown-not input.BadJson shown shows e = cc
-shown-not input.NotAnObject shown shows e = cc
-shown-not (input.UnknownName name) shown shows e = cc
-shown-not (input.WrongShape name) shown shows e = cc
-shown-not (input.WrongLength name) shown shows e = cc
-shown-not (input.NotAWord name) shown shows e = cc
+shown-not other shown shows e = cc
 
 -- the line of inputs that don't fit names their first fault
 pub no-inputs : (wants : List Want) (bytes : List ℕ) (fault : InputError) (said : Said)

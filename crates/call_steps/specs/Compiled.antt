@@ -13,14 +13,14 @@ use Rattle.held_registers.specs.declared.registers.Held.{Held}
 use Rattle.block_cache_gen.specs.StoredWords.{stored_words}
 use Rattle.compiled_objects.specs.Compiles.{ExplainsResidents, ExplainsRoom, IsFor, stores_by}
 use Rattle.compiled_objects.specs.FastLayout.{fast_plan}
-use Rattle.compiled_objects.specs.HeldNumbers as code
 use Rattle.compiled_objects.specs.Implements.{Implements}
 use Rattle.compiled_objects.specs.declared.errors.CompileError.{CompileError}
-use Rattle.compiled_objects.specs.declared.errors.CompileError.TheVariants as room
 use Rattle.call_replies.specs.declared.source_faults.SourceFault.{SourceFault}
-use Rattle.call_replies.specs.declared.source_faults.SourceFault.TheVariants as fault
 use Rattle.call_steps.specs.declared.targets.Target.{Target}
 use Rattle.call_steps.specs.Objects.{SpellsObject}
+use Rattle.compiled_objects.specs.HeldNumbers as code
+use Rattle.compiled_objects.specs.declared.errors.CompileError.TheVariants as room
+use Rattle.call_replies.specs.declared.source_faults.SourceFault.TheVariants as fault
 
 -- with `--fast` arrays that fit stay in the scratchpad
 abbrev pub plan_for : Bool → Source → ℕ → Plan

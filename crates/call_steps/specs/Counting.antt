@@ -9,26 +9,16 @@ use Rattle.call_steps.specs.declared.count_watch.CountWatch.{CountWatch}
 abbrev pub is_plain : Observed → Bool
 is_plain (RamRead block words) = true
 is_plain (RamWrite block words) = true
-is_plain (EncRead block) = false
-is_plain (EncWrite block) = false
-is_plain (Oram bank) = false
-is_plain Halted = false
+is_plain other = false
 
 abbrev pub is_encrypted : Observed → Bool
-is_encrypted (RamRead block words) = false
-is_encrypted (RamWrite block words) = false
 is_encrypted (EncRead block) = true
 is_encrypted (EncWrite block) = true
-is_encrypted (Oram bank) = false
-is_encrypted Halted = false
+is_encrypted other = false
 
 abbrev pub is_second : Observed → Bool
-is_second (RamRead block words) = false
-is_second (RamWrite block words) = false
-is_second (EncRead block) = false
-is_second (EncWrite block) = false
 is_second (Oram bank) = bank == 2
-is_second Halted = false
+is_second other = false
 
 -- how many events are of a kind
 abbrev pub how_many : (Observed → Bool) → List Stamped → ℕ

@@ -37,12 +37,7 @@ AreFiles Check names files output = (names ≡ files) × (output ≡ None)
 AreFiles Trace names files output = (names ≡ files) × (output ≡ None)
 AreFiles Bus names files output = (names ≡ files) × (output ≡ None)
 AreFiles Sample names files output = (files ≡ []) × (number : Text) × AllButLast names (number ∷ []) output
-AreFiles Run names files output = AllButLast names files output
-AreFiles Assemble names files output = AllButLast names files output
-AreFiles Disassemble names files output = AllButLast names files output
-AreFiles Evaluate names files output = AllButLast names files output
-AreFiles Compile names files output = AllButLast names files output
-AreFiles Infer names files output = AllButLast names files output
+AreFiles other names files output = AllButLast names files output
 
 -- the words are a call of a verb, and the calls of the shelf are those of its files in their order
 pub record CallsItsFiles (words : List Text) (before after : Log) : Type 0 where

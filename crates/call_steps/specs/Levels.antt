@@ -1,6 +1,6 @@
 -- The levels of the blocks of a machine's oblivious banks, now and at the end of a run. For the contracts of private
 -- functions, and for proofs.
-use Rattle.std.specs.Prelude.{◌≡◌, ◌≢◌, ℕ, ◌+◌, ◌-◌, ◌<◌, ◌≤◌, Bool, true, false, List, [], length, Option, Some, None, slice_index_or}
+use Rattle.std.specs.Prelude.{◌≡◌, ◌≢◌, ℕ, ◌+◌, ◌-◌, ◌<◌, ◌≤◌, Bool, true, false, List, [], length, Option, Some, None, slice_index_or, Result, OnErr, OnOk}
 use Rattle.std.specs.List.{All}
 use Rattle.lt_isa.specs.Machine.{State}
 use Rattle.lt_isa.specs.Object.{Parts}
@@ -10,7 +10,6 @@ use Rattle.banks.specs.Accesses.{accesses_from, in_bank}
 use Rattle.processor.specs.ObliviousBanks.{oram_of}
 use Rattle.rand_chacha.specs.ChaCha.{ChaCha}
 use Rattle.rand_core.specs.Stream.{Stream}
-use Rattle.std.specs.Prelude.{Result, OnErr, OnOk}
 use Rattle.path_oram.specs.Orams.{ComesBy, Oram}
 use Rattle.path_oram.specs.Places.{Places}
 use Rattle.path_oram.specs.Settles.{AreLevels}

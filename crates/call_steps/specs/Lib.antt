@@ -21,3 +21,4 @@ pub mod Reached
 pub mod Compile
 pub mod Compiled
 pub mod Levels
+pub mod Prelude

@@ -4,11 +4,8 @@ use Rattle.gr_outside.specs.Shelf.{ShelfSeen}
 use Rattle.call_replies.specs.declared.replies.Verdict.{Verdict}
 use Rattle.call_replies.specs.declared.replies.Verdict.TheVariants.{Malformed, BadSource, BadInput, BadAssembly, NoNotes}
 use Rattle.object_file.specs.declared.errors.DecodeError.{DecodeError}
-use Rattle.object_file.specs.declared.errors.DecodeError.TheVariants as object
 use Rattle.lt_assembler.specs.declared.errors.AsmError.{AsmError}
-use Rattle.lt_assembler.specs.declared.errors.AsmError.TheVariants as text
 use Rattle.note_infer.specs.declared.faults.InferError.{InferError}
-use Rattle.note_infer.specs.declared.faults.InferError.TheVariants as notes
 use Rattle.call_replies.specs.declared.source_faults.SourceFault.{SourceFault}
 use Rattle.call_replies.specs.declared.replies.InputFault.{InputFault}
 use Rattle.run_data.specs.declared.errors.InputError.{InputError}
@@ -17,6 +14,9 @@ use Rattle.call_steps.specs.Questions.{Question, Answer, IsRight, Shows}
 use Rattle.call_steps.specs.Showing.{nothing_seen}
 use Rattle.call_steps.specs.Work.{Work, Ends, Ending, MayEnd, said_at}
 use Rattle.call_steps.specs.Outside.{Gives, OnlyReads, LeavesShelf}
+use Rattle.object_file.specs.declared.errors.DecodeError.TheVariants as object
+use Rattle.lt_assembler.specs.declared.errors.AsmError.TheVariants as text
+use Rattle.note_infer.specs.declared.faults.InferError.TheVariants as notes
 
 -- the rest of a work is this one, regardless of what later reads do to the shelf's count
 abbrev pub HasLeft : ShelfSeen → Work → Work → Type 0

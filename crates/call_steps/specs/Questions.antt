@@ -15,12 +15,10 @@ use Rattle.lt_assembler.specs.FirstFaults.{IsFirstTextFault}
 use Rattle.lt_assembler.specs.declared.errors.AsmError.{AsmError}
 use Rattle.run_data.specs.InputsOf.{json_of, inputs_of}
 use Rattle.run_data.specs.declared.errors.InputError.{InputError}
-use Rattle.run_data.specs.declared.errors.InputError.TheVariants as error
 use Rattle.trace_patterns.specs.declared.reasons.Reason.{Reason}
 use Rattle.trace_patterns.specs.Accepts.{Accepts, FirstRefusal}
 use Rattle.note_infer.specs.declared.faults.InferError.{InferError}
 use Rattle.call_replies.specs.declared.replies.InputFault.{InputFault}
-use Rattle.call_replies.specs.declared.replies.InputFault.TheVariants as fault
 use Rattle.call_replies.specs.declared.source_faults.SourceFault.{SourceFault}
 use Rattle.call_replies.specs.NameText.{name_text}
 use Rattle.call_steps.specs.Objects.{SpellsObject}
@@ -33,6 +31,8 @@ use Rattle.call_steps.specs.RecursivePaths.{IsShownInTrees}
 use Rattle.call_steps.specs.Runs.{HaltOf}
 use Rattle.call_steps.specs.Showing.{Seen}
 use Rattle.src_tree.specs.Meaning.{meaning}
+use Rattle.run_data.specs.declared.errors.InputError.TheVariants as error
+use Rattle.call_replies.specs.declared.replies.InputFault.TheVariants as fault
 
 pub data Question : Type 0 where
   WhichObject : (bytes : List ℕ) → Question

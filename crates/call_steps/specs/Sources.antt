@@ -4,15 +4,12 @@ use Rattle.std.specs.Prelude.{◌≡◌, ℕ, Bool, true, false, List, Option, S
 use Rattle.src_lexer.specs.Splits.{Splits}
 use Rattle.src_lexer.specs.declared.tokens.Token.{Token}
 use Rattle.src_lexer.specs.declared.errors.LexError.{LexError}
-use Rattle.src_lexer.specs.declared.errors.LexError.TheVariants as piece
 use Rattle.src_parser.specs.Grammar.{limits, Sentence}
 use Rattle.src_parser.specs.Refusals.{token_kinds}
 use Rattle.src_parser.specs.Source.{SpellsSource}
 use Rattle.src_parser.specs.Explained.{ExplainsTokens}
 use Rattle.src_parser.specs.declared.errors.ParseError.{ParseError}
-use Rattle.src_parser.specs.declared.errors.ParseError.TheVariants as token
 use Rattle.src_parser.specs.declared.errors.TextError.{TextError}
-use Rattle.src_parser.specs.declared.errors.TextError.TheVariants as text
 use Rattle.procs_parser.specs.FileGrammar.{SpellsFile}
 use Rattle.procs_parser.specs.FileRefusals.{ExplainsFile}
 use Rattle.src_procs.specs.Trees.{File}
@@ -20,14 +17,17 @@ use Rattle.src_procs.specs.Inlined.{inlined_file}
 use Rattle.src_procs.specs.CallCauses.{IsFirstCallFault, ExplainsInlining}
 use Rattle.src_procs.specs.Promise.{KeepsMeaning}
 use Rattle.src_procs.specs.declared.errors.InlineError.{InlineError}
-use Rattle.src_procs.specs.declared.errors.InlineError.TheVariants as calls
 use Rattle.src_tree.specs.Trees.{Source}
 use Rattle.src_tree.specs.Typing.{IsTyped}
 use Rattle.src_tree.specs.Limits.{IsWithinLimits}
 use Rattle.flow_types.specs.Refusals.{ExplainsProgram}
 use Rattle.src_tree.specs.declared.faults.TypeError.{TypeError}
-use Rattle.src_tree.specs.declared.faults.TypeError.TheVariants as program
 use Rattle.call_replies.specs.declared.source_faults.SourceFault.{SourceFault}
+use Rattle.src_lexer.specs.declared.errors.LexError.TheVariants as piece
+use Rattle.src_parser.specs.declared.errors.ParseError.TheVariants as token
+use Rattle.src_parser.specs.declared.errors.TextError.TheVariants as text
+use Rattle.src_procs.specs.declared.errors.InlineError.TheVariants as calls
+use Rattle.src_tree.specs.declared.faults.TypeError.TheVariants as program
 use Rattle.call_replies.specs.declared.source_faults.SourceFault.TheVariants as fault
 
 -- the most bytes that a source text may have

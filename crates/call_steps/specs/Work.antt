@@ -46,10 +46,8 @@ said_at (IsVerdict seen verdict) = around seen (comes_to verdict)
 said_at (IsWritten name bytes done) = wrote done
 
 abbrev pub files_at : Ending → Files → Files
-files_at (IsUnread name) files = files
-files_at (IsTooLong name limit) files = files
-files_at (IsVerdict seen verdict) files = files
 files_at (IsWritten name bytes done) files = with_file name bytes files
+files_at other files = files
 
 -- the files give what they hold
 abbrev pub Holds : Files → List ℕ → Option (List ℕ) → Type 0

@@ -1,5 +1,5 @@
 ghost use Rattle.std.specs.Prelude.{◌≡◌, [], true};
-ghost use Rattle.lt_isa.specs.Events.{observed_of};
+ghost use Rattle.lt_isa.specs.Prelude.{observed_of};
 ghost use Rattle.call_steps.specs.Counting.{Counts, counted_all};
 
 use lt_isa::Event;

@@ -1,8 +1,6 @@
 ghost use Rattle.std.specs.Prelude.{IfErr, IfOk, List, ℤ};
-ghost use Rattle.lt_isa.specs.Object.{Parts};
-ghost use Rattle.lt_isa.specs.Ranges.{IsInRange};
-ghost use Rattle.lt_isa.specs.Start.{FitsObject};
-ghost use Rattle.call_replies.specs.Texts.{said};
+ghost use Rattle.lt_isa.specs.Prelude.{Parts, IsInRange, FitsObject};
+ghost use Rattle.call_replies.specs.Prelude.{said};
 ghost use Rattle.call_steps.specs.Reached.{HasReached, HasStopped, stage, with_given};
 ghost use Rattle.call_steps.specs.Work.{Work};
 

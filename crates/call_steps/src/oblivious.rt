@@ -1,7 +1,5 @@
 ghost use Rattle.std.specs.Prelude.{◌≡◌, ◌-◌, ◌<◌, ◌≤◌, ℕ, ℤ, List, IfOk, length};
-ghost use Rattle.lt_isa.specs.Object.{Parts, block_words};
-ghost use Rattle.lt_isa.specs.Ranges.{IsInRange};
-ghost use Rattle.lt_isa.specs.Start.{FitsObject, start_bank};
+ghost use Rattle.lt_isa.specs.Prelude.{Parts, block_words, IsInRange, FitsObject, start_bank};
 ghost use Rattle.rand_chacha.specs.ChaCha.{of_seed};
 ghost use Rattle.call_steps.specs.Beginning.{BankBegins, BeginFrom, HasBegun, RecursiveBegins};
 ghost use Rattle.call_steps.specs.Seeds.{seed_bytes};

@@ -1,6 +1,6 @@
 ghost use Rattle.std.specs.Prelude.{◌≡◌, ◌⊎◌, IfOk, string_bytes};
 ghost use Rattle.call_steps.specs.Outside.{PutsSaid};
-ghost use Rattle.call_replies.specs.Texts.{no_memory, said};
+ghost use Rattle.call_replies.specs.Prelude.{no_memory, said};
 
 use call_replies::replies::{NO_MEMORY, Reply};
 use gr_base::Memory;

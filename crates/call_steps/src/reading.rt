@@ -1,17 +1,15 @@
 ghost use Rattle.std.specs.Prelude.{◌≡◌, ◌≤◌, ℤ, IfErr, IfOk, List, OnOk, length};
-ghost use Rattle.gr_word.specs.Fitting.{AreVariables, FitsWants};
-ghost use Rattle.lt_isa.specs.Object.{Parts};
-ghost use Rattle.lt_isa.specs.Ranges.{IsInRange};
-ghost use Rattle.lt_isa.specs.Start.{FitsObject};
-ghost use Rattle.lt_assembler.specs.Spelled.{SpellsInText};
-ghost use Rattle.trace_patterns.specs.Accepts.{Accepts};
+ghost use Rattle.gr_word.specs.Prelude.{AreVariables, FitsWants};
+ghost use Rattle.lt_isa.specs.Prelude.{Parts, IsInRange, FitsObject};
+ghost use Rattle.lt_assembler.specs.Prelude.{SpellsInText};
+ghost use Rattle.trace_patterns.specs.Prelude.{Accepts};
 ghost use Rattle.call_steps.specs.Objects.{SpellsObject, object_limit};
 ghost use Rattle.call_steps.specs.Progress.{EndsWorkWith, SaysInputs, SaysObject, SaysText};
 ghost use Rattle.call_steps.specs.Questions.{AreInputs, Shows, WhetherAccepted, WhichAssembly, WhichInputs, WhichObject};
 ghost use Rattle.call_replies.specs.declared.replies.Verdict.TheVariants.{BadAssembly, BadInput, Malformed};
 ghost use Rattle.call_steps.specs.Reached.{Finds, FindsNone, stage};
 ghost use Rattle.call_steps.specs.Steps.{input_limit, on_judged, or_ends, text_limit, with_accepted, with_assembly, with_inputs, with_object, with_variables};
-ghost use Rattle.call_replies.specs.Texts.{said};
+ghost use Rattle.call_replies.specs.Prelude.{said};
 ghost use Rattle.call_steps.specs.Work.{Reads, Work};
 
 use call_replies::replies::{InputFault, JsonText, Reply, Verdict};

@@ -1,12 +1,12 @@
 ghost use Rattle.std.specs.Prelude.{◌≤◌, IfErr, IfOk, IfSome, false, length, true};
-ghost use Rattle.src_tree.specs.Trees.{Source, source_of};
+ghost use Rattle.src_tree.specs.Prelude.{Source, source_of};
 ghost use Rattle.call_steps.specs.Progress.{EndsWorkWith, SaysSource};
 ghost use Rattle.call_steps.specs.Questions.{WhichSource};
 ghost use Rattle.call_steps.specs.Reached.{Finds, FindsNone, stage};
 ghost use Rattle.call_steps.specs.Sources.{IsFirstSourceFault, Spells, SpellsTyped, source_limit};
 ghost use Rattle.call_replies.specs.declared.replies.Verdict.TheVariants.{BadSource};
 ghost use Rattle.call_steps.specs.Steps.{or_ends, with_source};
-ghost use Rattle.call_replies.specs.Texts.{said};
+ghost use Rattle.call_replies.specs.Prelude.{said};
 ghost use Rattle.call_steps.specs.Work.{Work};
 
 use crate::reading::read_whole;

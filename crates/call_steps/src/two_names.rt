@@ -1,6 +1,6 @@
 ghost use Rattle.std.specs.Prelude.{◌≡◌, List, ℕ};
 ghost use Rattle.std.specs.Option.{option_map};
-ghost use Rattle.command_words.specs.Options.{two_named};
+ghost use Rattle.command_words.specs.Prelude.{two_named};
 ghost use Rattle.call_steps.specs.Work.{Work};
 
 /// The name of the file that is read, and of the one that is written.

@@ -3,7 +3,7 @@
 ghost use Rattle.std.specs.Prelude.{◌≡◌, IfErr, IfOk, IfSome, List, OnErr, Option, Some};
 ghost use Rattle.std.specs.Option.{option_map};
 ghost use Rattle.clap.specs.Words.{Row, found_of, rows_of};
-ghost use Rattle.call_replies.specs.Texts.{said};
+ghost use Rattle.call_replies.specs.Prelude.{said};
 ghost use Rattle.call_steps.specs.CallsFollow.{Follows, Makes};
 ghost use Rattle.call_steps.specs.Outside.{Explains, outside};
 ghost use Rattle.call_steps.specs.Progress.{LeavesToSay};

@@ -1,7 +1,7 @@
 ghost use Rattle.std.specs.Prelude.{◌≡◌, IfErr, IfOk, OnErr};
 ghost use Rattle.call_steps.specs.CallsFollow.{TriesWrite};
 ghost use Rattle.call_steps.specs.Outside.{LeftBy, outside};
-ghost use Rattle.call_replies.specs.Texts.{no_memory, said};
+ghost use Rattle.call_replies.specs.Prelude.{no_memory, said};
 ghost use Rattle.call_steps.specs.Work.{IsWritten};
 
 use crate::putting::{NOT_PUT, line_of, put_text, say_no_memory};

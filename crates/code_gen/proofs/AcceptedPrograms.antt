@@ -7,31 +7,24 @@ use Rattle.gr_word.specs.declared.variables.Label.{Label}
 use Rattle.gr_word.specs.declared.variables.Label.TheVariants.{Public, Secret}
 use Rattle.lt_isa.specs.declared.symbols.Symbol.{Symbol}
 use Rattle.lt_isa.specs.declared.instructions.Instr.{Instr}
-use Rattle.lt_isa.specs.Object.{Parts, is_ram}
+use Rattle.lt_isa.specs.Prelude.{Parts, is_ram}
 use Rattle.src_tree.specs.declared.trees.Decl.{Decl}
-use Rattle.src_tree.specs.Contexts.{context_of}
-use Rattle.src_tree.specs.Limits.{IsWithinLimits, block_weight, max_weight}
-use Rattle.src_tree.specs.Trees.{Source}
-use Rattle.src_tree.specs.Typing.{IsTyped, DeclaredOnce, TypedBlock}
-use Rattle.trace_patterns.specs.Accepts.{Accepts, has_secret_in_ram, is_secret_label}
+use Rattle.src_tree.specs.Prelude.{context_of, IsWithinLimits, block_weight, max_weight, Source, IsTyped, DeclaredOnce, TypedBlock}
+use Rattle.trace_patterns.specs.Prelude.{Accepts, has_secret_in_ram, is_secret_label}
 use Rattle.bank_alloc.specs.declared.places.Place.{Place}
-use Rattle.bank_alloc.specs.Apart.{IsBankOf}
-use Rattle.bank_alloc.specs.Layout.{IsLaidOut, placed_symbols}
-use Rattle.scratch_alloc.specs.Plans.{Plan, IsSoundPlan, no_decl, no_place}
-use Rattle.block_cache_gen.specs.declared.frames.Mode.TheVariants as modes
-use Rattle.block_cache_gen.specs.Homes.{Setting, HasHomes, ranged}
-use Rattle.block_cache_gen.specs.Codes.{guard_code}
-use Rattle.block_cache_gen.specs.HeldCodes.{HasSecretSlot}
+use Rattle.bank_alloc.specs.Prelude.{IsBankOf, IsLaidOut, placed_symbols}
+use Rattle.scratch_alloc.specs.Prelude.{Plan, IsSoundPlan, no_decl, no_place}
+use Rattle.block_cache_gen.specs.Prelude.{Setting, HasHomes, ranged, guard_code, HasSecretSlot}
 use Rattle.block_cache_gen.proofs.Ranged.{homes-ranged}
 use Rattle.block_cache_gen.proofs.Settled.{IsSettingOf, has-homes}
 use Rattle.block_cache_gen.proofs.IndexesOfPrograms.{program-public}
 use Rattle.branch_padding.proofs.NestingWeights.{choice-nesting}
 use Rattle.branch_padding.proofs.PublicRegions.{choice-passes}
-use Rattle.code_gen.specs.Emitted.{padding_of}
-use Rattle.code_gen.specs.Programs.{program_code, program_notes}
+use Rattle.code_gen.specs.Prelude.{padding_of, program_code, program_notes}
 use Rattle.code_gen.proofs.PassedParts.{held-open}
 use Rattle.code_gen.proofs.PassedStatements.{BeginsGuarded, PassesPadded}
 use Rattle.code_gen.proofs.PassedPrograms.{program-accepts}
+use Rattle.block_cache_gen.specs.declared.frames.Mode.TheVariants as modes
 
 -- no secret variable is stored in plain memory
 plain_symbol : (label : Label) (bank : ℕ) → IsBankOf label bank → (is_ram bank && is_secret_label label) ≡ false

@@ -1,22 +1,17 @@
 -- Stores that agree on the public variables of a program are inputs that agree on the public symbols of its object.
 use Rattle.std.proofs.Common.{◌≡◌, false, ℕ, zero, suc, ◌<◌, ℤ, List, [], ◌∷◌, length, map, get_or, Option, Some, refl, sym, ap, ◌∙◌, arith}
 use Rattle.std.proofs.lemmas.Option.{slice_get-get_or}
-use Rattle.gr_word.specs.Fitting.{FitsWants}
+use Rattle.gr_word.specs.Prelude.{FitsWants}
 use Rattle.gr_word.specs.declared.variables.Label.TheVariants.{Public}
 use Rattle.lt_isa.specs.declared.symbols.Symbol.{Symbol}
-use Rattle.lt_isa.specs.Object.{Parts}
-use Rattle.lt_isa.specs.Start.{Agree, AgreeOn}
-use Rattle.src_tree.specs.Trees.{Source}
-use Rattle.src_tree.specs.Limits.{IsWithinLimits}
-use Rattle.src_tree.specs.Meaning.{Store, variable_number, words_of_number}
-use Rattle.src_tree.specs.Typing.{DeclaredOnce}
-use Rattle.flow_types.specs.Wants.{declared_wants}
-use Rattle.bank_alloc.specs.Layout.{IsLaidOut}
+use Rattle.lt_isa.specs.Prelude.{Parts, Agree, AgreeOn}
+use Rattle.src_tree.specs.Prelude.{Source, IsWithinLimits, Store, variable_number, words_of_number, DeclaredOnce}
+use Rattle.flow_types.specs.Prelude.{declared_wants}
+use Rattle.bank_alloc.specs.Prelude.{IsLaidOut}
 use Rattle.src_tree.proofs.VariableNumbers.{number-of_declared}
-use Rattle.scratch_alloc.specs.Plans.{Plan, IsSoundPlan, no_decl}
-use Rattle.block_cache_gen.specs.Settings.{setting_for}
-use Rattle.compiled_objects.specs.AgreeingStores.{AgreeOnPublic}
-use Rattle.compiled_objects.specs.Implements.{by_name}
+use Rattle.scratch_alloc.specs.Prelude.{Plan, IsSoundPlan, no_decl}
+use Rattle.block_cache_gen.specs.Prelude.{setting_for}
+use Rattle.compiled_objects.specs.Prelude.{AgreeOnPublic, by_name}
 use Rattle.code_gen.proofs.ByName.{IsVariable, setting-of, symbols-variables, inputs-fit}
 
 some-is : (s t : Symbol) → ◌≡◌ {A = Option Symbol} (Some s) (Some t) → s ≡ t

@@ -3,39 +3,26 @@ use Rattle.std.proofs.Common.{◌≡◌, ℕ, suc, zero, ◌+◌, ◌*◌, ◌^�
 use Rattle.std.specs.Prelude.{All, if◌then◌else◌}
 use Rattle.std.proofs.Math.Nat.{zero-add}
 use Rattle.std.proofs.lemmas.List.Elements.{All-cons}
-use Rattle.gr_base.specs.Lists.{Within, EachAfter}
+use Rattle.gr_base.specs.Prelude.{Within, EachAfter}
 use Rattle.lt_isa.specs.declared.profiles.Profile.{Profile}
 use Rattle.lt_isa.specs.declared.profiles.Latencies.{Latencies}
 use Rattle.lt_isa.specs.declared.profiles.BankSpec.{BankSpec}
-use Rattle.lt_isa.specs.Limits.{most_latency}
-use Rattle.lt_isa.specs.Object.{Parts, no_bank, is_ram, is_eram}
-use Rattle.lt_isa.specs.Ranges.{ProfileFits, SymbolFits}
-use Rattle.src_tree.specs.Limits.{IsWithinLimits, weight_of}
-use Rattle.src_tree.specs.Trees.{Source, source_of}
-use Rattle.src_tree.specs.Typing.{IsTyped}
-use Rattle.trace_patterns.specs.Accepts.{Accepts}
-use Rattle.bank_alloc.specs.Layout.{AreSymbolsAt, IsLaidOut}
-use Rattle.bank_alloc.specs.Places.{IsPlacesOf, places_of, blocks_of_banks}
+use Rattle.lt_isa.specs.Prelude.{most_latency, Parts, no_bank, is_ram, is_eram, ProfileFits, SymbolFits}
+use Rattle.src_tree.specs.Prelude.{IsWithinLimits, weight_of, Source, source_of, IsTyped}
+use Rattle.trace_patterns.specs.Prelude.{Accepts}
+use Rattle.bank_alloc.specs.Prelude.{AreSymbolsAt, IsLaidOut, IsPlacesOf, places_of, blocks_of_banks}
 use Rattle.bank_alloc.specs.declared.places.Place.{Place}
 use Rattle.bank_alloc.specs.declared.places.Places.{Places}
 use Rattle.scratch_alloc.specs.declared.plans.SlotPlan.{SlotPlan}
 use Rattle.scratch_alloc.specs.declared.plans.Pin.{Pin}
-use Rattle.scratch_alloc.specs.Plans.{Plan, IsSoundPlan, plan_from, scalar_pins, standard_plan}
-use Rattle.scratch_alloc.specs.Slots.{slots_of}
+use Rattle.scratch_alloc.specs.Prelude.{Plan, IsSoundPlan, plan_from, scalar_pins, standard_plan, slots_of}
 use Rattle.block_cache_gen.specs.declared.frames.Frame.{Frame}
-use Rattle.held_registers.specs.Held.{IsSoundHeld}
-use Rattle.block_cache_gen.specs.HeldCodes.{HasSecretSlot}
-use Rattle.block_cache_gen.specs.Homes.{Held, Setting}
-use Rattle.block_cache_gen.specs.ProgramWords.{BlockHasWords}
-use Rattle.block_cache_gen.specs.Settings.{IsFrame, plan_of, setting_for, setting_of}
-use Rattle.block_cache_gen.specs.StoredWords.{stored_words}
+use Rattle.held_registers.specs.Prelude.{IsSoundHeld}
+use Rattle.block_cache_gen.specs.Prelude.{HasSecretSlot, Held, Setting, BlockHasWords, IsFrame, plan_of, setting_for, setting_of, stored_words}
 use Rattle.block_cache_gen.proofs.Settled.{IsSettingOf}
 use Rattle.block_cache_gen.proofs.SingleHomes.{oblivious-single}
-use Rattle.compiled_objects.specs.Compiles.{IsFor, LatenciesFit, latency_for, stores_by}
-use Rattle.code_gen.specs.Emitted.{padding_of}
-use Rattle.compiled_objects.specs.Implements.{Implements}
-use Rattle.code_gen.specs.Made.{banks_from, IsMadeOf}
-use Rattle.code_gen.specs.Programs.{program_code, program_notes}
+use Rattle.compiled_objects.specs.Prelude.{IsFor, LatenciesFit, latency_for, stores_by, Implements}
+use Rattle.code_gen.specs.Prelude.{padding_of, banks_from, IsMadeOf, program_code, program_notes}
 use Rattle.code_gen.proofs.AcceptedPrograms.{laid-accepts}
 use Rattle.code_gen.proofs.RangesOfObjects.{frame-in_range}
 use Rattle.code_gen.proofs.RangesOfPrograms.{program-short}

@@ -3,15 +3,13 @@
 use Rattle.std.proofs.Common.{◌≡◌, ℕ, ◌<◌, Bool, true, false, List, [], ◌∷◌, length, refl, sym, ◌∙◌, arith}
 use Rattle.std.specs.Prelude.{if◌then◌else◌}
 use Rattle.src_tree.specs.declared.trees.Decl.{Decl}
-use Rattle.src_tree.specs.Meaning.{Store, words_of_number}
-use Rattle.src_tree.specs.Trees.{Test, Statement, Block}
-use Rattle.scalar_ranges.specs.Known.{after_statement, forgotten_block, inside, nothing_known}
-use Rattle.scalar_ranges.specs.Ranges.{AreOfPublic, AreWithin, Ranges}
+use Rattle.src_tree.specs.Prelude.{Store, words_of_number, Test, Statement, Block}
+use Rattle.scalar_ranges.specs.Prelude.{after_statement, forgotten_block, inside, nothing_known, AreOfPublic, AreWithin, Ranges}
 use Rattle.scalar_ranges.proofs.Coming.{nothing-within}
 use Rattle.scalar_ranges.proofs.Counts.{after-count, forgotten-count, inside-count}
 use Rattle.scalar_ranges.proofs.PublicOnly.{nothing-public}
-use Rattle.block_cache_gen.specs.Homes.{Setting}
-use Rattle.compiled_objects.specs.Compiles.{at_start}
+use Rattle.block_cache_gen.specs.Prelude.{Setting}
+use Rattle.compiled_objects.specs.Prelude.{at_start}
 
 pub start-public : (f : Setting) → AreOfPublic f.decls (at_start f).ranges
 start-public f = by f.reduces

@@ -1,20 +1,13 @@
 -- The code of a program's body, at its place in the program's code, follows the body.
 use Rattle.std.proofs.Common.{◌≡◌, ◌+◌, ◌++◌, length, sym, subst, arith}
 use Rattle.gr_word.specs.declared.variables.Label.TheVariants.{Public}
-use Rattle.lt_isa.specs.Object.{Parts}
-use Rattle.lt_isa.specs.Ranges.{IsInRange}
-use Rattle.stretches.specs.Standing.{StandsAt}
+use Rattle.lt_isa.specs.Prelude.{Parts, IsInRange}
+use Rattle.stretches.specs.Prelude.{StandsAt}
 use Rattle.stretches.proofs.Standing.{standing-first, standing-rest, standing-whole}
-use Rattle.src_tree.specs.Trees.{Source}
-use Rattle.src_tree.specs.Contexts.{context_of}
-use Rattle.src_tree.specs.Limits.{IsWithinLimits}
-use Rattle.src_tree.specs.Typing.{IsTyped, TypedBlock}
-use Rattle.src_tree.specs.Meaning.{run_of_block}
-use Rattle.block_cache_gen.specs.Homes.{Setting}
-use Rattle.code_gen.specs.Follows.{Follows}
-use Rattle.code_gen.specs.Statements.{Padding, block_code}
-use Rattle.code_gen.specs.Programs.{beginning, ending, program_code}
-use Rattle.compiled_objects.specs.Compiles.{at_start}
+use Rattle.src_tree.specs.Prelude.{Source, context_of, IsWithinLimits, IsTyped, TypedBlock, run_of_block}
+use Rattle.block_cache_gen.specs.Prelude.{Setting}
+use Rattle.code_gen.specs.Prelude.{Follows, Padding, block_code, beginning, ending, program_code}
+use Rattle.compiled_objects.specs.Prelude.{at_start}
 use Rattle.code_gen.proofs.AtStart.{start-public}
 use Rattle.code_gen.proofs.Followed.{PartsFollow, block-follows}
 

@@ -5,31 +5,22 @@ use Rattle.std.proofs.lemmas.Bool.{cases_eq, cases_lt}
 use Rattle.std.proofs.lemmas.List.{get_or_past}
 use Rattle.std.proofs.lemmas.List.FromFn.{fill_by_all}
 use Rattle.std.proofs.lemmas.List.Sorted.{All-permutation, Contains-permutation}
-use Rattle.gr_word.specs.Fitting.{FitsWants, AreWords}
+use Rattle.gr_word.specs.Prelude.{FitsWants, AreWords}
 use Rattle.lt_isa.specs.declared.symbols.Symbol.{Symbol}
-use Rattle.lt_isa.specs.Object.{Parts, block_words, blocks_of, first_word, end_word}
-use Rattle.lt_isa.specs.Machine.{State}
-use Rattle.lt_isa.specs.Outputs.{bank_word_numbered, symbol_word, symbol_words, outputs}
-use Rattle.lt_isa.specs.Start.{FitsObject, start_state, want_of}
+use Rattle.lt_isa.specs.Prelude.{Parts, block_words, blocks_of, first_word, end_word, State, bank_word_numbered, symbol_word, symbol_words, outputs, FitsObject, start_state, want_of}
 use Rattle.lt_isa.proofs.StartWords.{Takes, start_word-taken, bank_word-start}
 use Rattle.src_tree.specs.declared.trees.Decl.{Decl}
-use Rattle.src_tree.specs.Trees.{Source}
-use Rattle.src_tree.specs.Contexts.{context_of, label_and_shape, shape_of}
-use Rattle.src_tree.specs.Limits.{IsWithinLimits, words_of}
-use Rattle.src_tree.specs.Meaning.{Store, variable_number, words_of_number}
-use Rattle.src_tree.specs.Typing.{DeclaredOnce}
-use Rattle.flow_types.specs.Wants.{declared_wants}
+use Rattle.src_tree.specs.Prelude.{Source, context_of, label_and_shape, shape_of, IsWithinLimits, words_of, Store, variable_number, words_of_number, DeclaredOnce}
+use Rattle.flow_types.specs.Prelude.{declared_wants}
 use Rattle.bank_alloc.specs.declared.places.Place.{Place}
-use Rattle.bank_alloc.specs.Layout.{IsLaidOut, placed_symbol, placed_symbols}
+use Rattle.bank_alloc.specs.Prelude.{IsLaidOut, placed_symbol, placed_symbols}
 use Rattle.src_tree.proofs.VariableNumbers.{number-of_declared, kind-at_number}
 use Rattle.bank_alloc.proofs.SymbolOrder.{length-symbols_at, get_or-symbols_at}
-use Rattle.scratch_alloc.specs.Plans.{Plan, IsSoundPlan, no_decl, no_place}
-use Rattle.block_cache_gen.specs.Homes.{Home, Setting, home_of, words_a_block, start_of_home, no_home}
-use Rattle.block_cache_gen.specs.Settings.{home_at, setting_for}
-use Rattle.block_cache_gen.specs.StandsFor.{FitsHomes}
+use Rattle.scratch_alloc.specs.Prelude.{Plan, IsSoundPlan, no_decl, no_place}
+use Rattle.block_cache_gen.specs.Prelude.{Home, Setting, home_of, words_a_block, start_of_home, no_home, home_at, setting_for, FitsHomes}
 use Rattle.held_registers.proofs.Sound.{nothing-sound}
 use Rattle.block_cache_gen.proofs.Settled.{IsSettingOf, width, bank-count, bank-blocks, home-at, named-below, homes-apart, place-length}
-use Rattle.compiled_objects.specs.Implements.{HasSymbols, by_name}
+use Rattle.compiled_objects.specs.Prelude.{HasSymbols, by_name}
 use Rattle.code_gen.proofs.Started.{BanksHold}
 use Rattle.code_gen.proofs.Implementing.{NamesWords}
 

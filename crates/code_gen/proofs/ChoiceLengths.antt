@@ -1,19 +1,15 @@
 -- How long the code is after each part of a choice by a public guard: what the choice may take is enough for the rest.
 use Rattle.std.proofs.Common.{◌≡◌, ℕ, ◌+◌, ◌*◌, ◌≤◌, List, [], ◌∷◌, length, set, arith}
-use Rattle.gr_word.specs.declared.variables.Label.TheVariants as label
 use Rattle.lt_isa.specs.declared.instructions.Instr.{Instr}
 use Rattle.lt_isa.specs.declared.symbols.Note.{Note}
-use Rattle.src_tree.specs.Trees.{Test, Choice, Block}
-use Rattle.src_tree.specs.Contexts.{context_of}
-use Rattle.src_tree.specs.Labels.{label_of_test}
-use Rattle.src_tree.specs.Limits.{block_weight, statement_weight}
+use Rattle.src_tree.specs.Prelude.{Test, Choice, Block, context_of, label_of_test, block_weight, statement_weight}
 use Rattle.block_cache_gen.specs.declared.frames.CodeBuf.{CodeBuf}
 use Rattle.block_cache_gen.specs.declared.frames.Mode.TheVariants.{Public}
-use Rattle.block_cache_gen.specs.Homes.{Setting}
-use Rattle.block_cache_gen.specs.Emitted.{Appended, no_notes, EmitsGuard}
+use Rattle.block_cache_gen.specs.Prelude.{Setting, Appended, no_notes, EmitsGuard}
 use Rattle.block_cache_gen.proofs.Emitting.{appended_length}
 use Rattle.branch_padding.proofs.RegionLengths.{set-behind}
 use Rattle.code_gen.proofs.EmittedParts.{guard-length, guard_code-short, choice_weight-public}
+use Rattle.gr_word.specs.declared.variables.Label.TheVariants as label
 
 module _ (f : Setting) (t : Test) (a b : Block) (public : label_of_test (context_of f.decls) t ≡ label.Public) where
   abbrev pub room : Block → ℕ

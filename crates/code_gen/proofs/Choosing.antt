@@ -8,22 +8,15 @@ use Rattle.std.proofs.lemmas.Option.{none-some}
 use Rattle.gr_word.specs.declared.operations.Cmp.{Cmp}
 use Rattle.lt_isa.specs.declared.instructions.Instr.{Instr}
 use Rattle.lt_isa.specs.declared.instructions.Instr.TheVariants.{Jmp, Br}
-use Rattle.lt_isa.specs.Object.{Parts}
-use Rattle.lt_isa.specs.Ranges.{IsInRange}
-use Rattle.lt_isa.specs.Machine.{State, register}
-use Rattle.lt_isa.specs.Costs.{greatest_cost}
-use Rattle.lt_isa.specs.Shape.{IsShaped}
-use Rattle.stretches.specs.Standing.{StandsAt, greatest_costs}
-use Rattle.stretches.specs.Coming.{Comes}
+use Rattle.lt_isa.specs.Prelude.{Parts, IsInRange, State, register, greatest_cost, IsShaped}
+use Rattle.stretches.specs.Prelude.{StandsAt, greatest_costs, Comes}
 use Rattle.stretches.proofs.Standing.{standing-first, standing-rest, standing-head, standing-tail, greatest_costs-append}
 use Rattle.stretches.proofs.Coming.{comes-here, comes-weaker, comes-jmp, comes-br_taken, comes-br_on}
-use Rattle.src_tree.specs.Meaning.{Store, Left, Execution}
+use Rattle.src_tree.specs.Prelude.{Store, Left, Execution}
 use Rattle.src_tree.proofs.Loops.{left}
-use Rattle.scalar_ranges.specs.Ranges.{AreWithin, Ranges}
-use Rattle.block_cache_gen.specs.Homes.{Setting}
-use Rattle.block_cache_gen.specs.StandsFor.{FitsHomes, StandsFor}
-use Rattle.code_gen.specs.Follows.{Finishes, Lasts, Follows}
-use Rattle.code_gen.specs.Statements.{opposite, second_code, places_over, choice_code}
+use Rattle.scalar_ranges.specs.Prelude.{AreWithin, Ranges}
+use Rattle.block_cache_gen.specs.Prelude.{Setting, FitsHomes, StandsFor}
+use Rattle.code_gen.specs.Prelude.{Finishes, Lasts, Follows, opposite, second_code, places_over, choice_code}
 use Rattle.code_gen.proofs.Opposites.{compared-opposite}
 use Rattle.code_gen.proofs.Following.{Tested, Tests, stands-moved, finishes-weaker, finishes-behind, finishes-then, lasts-behind}
 

@@ -1,26 +1,16 @@
 -- An object that a program was compiled to implements it, where the code of the body follows the body's statements.
 use Rattle.std.proofs.Common.{◌≡◌, ℕ, length, sym, subst}
-use Rattle.lt_isa.specs.Object.{Parts}
-use Rattle.lt_isa.specs.Ranges.{IsInRange}
+use Rattle.lt_isa.specs.Prelude.{Parts, IsInRange}
 use Rattle.gr_word.specs.declared.variables.Label.TheVariants.{Public, Secret}
-use Rattle.stretches.specs.Standing.{StandsAt}
-use Rattle.src_tree.specs.Trees.{Source, Test, Block, Choice}
-use Rattle.src_tree.specs.Contexts.{context_of}
-use Rattle.src_tree.specs.Labels.{label_of_test}
-use Rattle.src_tree.specs.Limits.{IsWithinLimits, LowStatement}
-use Rattle.src_tree.specs.Meaning.{run_of, run_of_block}
-use Rattle.src_tree.specs.Typing.{IsTyped, DeclaredOnce, TypedStatement}
-use Rattle.bank_alloc.specs.Layout.{IsLaidOut}
-use Rattle.scratch_alloc.specs.Plans.{Plan, IsSoundPlan}
-use Rattle.block_cache_gen.specs.HeldCodes.{HasSecretSlot}
-use Rattle.scalar_ranges.specs.Ranges.{AreOfPublic, Ranges}
-use Rattle.block_cache_gen.specs.Homes.{Setting, ranged}
+use Rattle.stretches.specs.Prelude.{StandsAt}
+use Rattle.src_tree.specs.Prelude.{Source, Test, Block, Choice, context_of, label_of_test, IsWithinLimits, LowStatement, run_of, run_of_block, IsTyped, DeclaredOnce, TypedStatement}
+use Rattle.bank_alloc.specs.Prelude.{IsLaidOut}
+use Rattle.scratch_alloc.specs.Prelude.{Plan, IsSoundPlan}
+use Rattle.block_cache_gen.specs.Prelude.{HasSecretSlot, Setting, ranged}
+use Rattle.scalar_ranges.specs.Prelude.{AreOfPublic, Ranges}
 use Rattle.block_cache_gen.proofs.Settled.{IsSettingOf, has-homes}
-use Rattle.compiled_objects.specs.Implements.{Implements}
-use Rattle.code_gen.specs.Statements.{Padding, block_code}
-use Rattle.code_gen.specs.Programs.{beginning, program_code}
-use Rattle.compiled_objects.specs.Compiles.{at_start}
-use Rattle.code_gen.specs.Follows.{Follows}
+use Rattle.compiled_objects.specs.Prelude.{Implements, at_start}
+use Rattle.code_gen.specs.Prelude.{Padding, block_code, beginning, program_code, Follows}
 use Rattle.code_gen.proofs.Implementing.{implements}
 use Rattle.code_gen.proofs.ByName.{names-words}
 use Rattle.code_gen.proofs.PublicParts.{parts-follow}

@@ -5,27 +5,20 @@ use Rattle.std.proofs.lemmas.List.{length-append, length-set, set-append_left, d
 use Rattle.std.proofs.Math.Seq.{set-append_seam}
 use Rattle.gr_word.specs.declared.operations.Cmp.{Cmp}
 use Rattle.gr_word.specs.declared.variables.Label.{Label}
-use Rattle.gr_word.specs.declared.variables.Label.TheVariants as label
 use Rattle.lt_isa.specs.declared.symbols.Note.{Note}
 use Rattle.lt_isa.specs.declared.instructions.Instr.{Instr}
 use Rattle.lt_isa.specs.declared.instructions.Instr.TheVariants.{Jmp, Br}
 use Rattle.src_tree.specs.declared.trees.Stmt.{Stmt}
-use Rattle.src_tree.specs.Trees.{Test, Statement, SetVariable, SetElement, Choice, Loop, Block, Nothing, Then, statement_of, block_of_all}
-use Rattle.src_tree.specs.Contexts.{context_of}
-use Rattle.src_tree.specs.Labels.{label_of_test}
+use Rattle.src_tree.specs.Prelude.{Test, Statement, SetVariable, SetElement, Choice, Loop, Block, Nothing, Then, statement_of, block_of_all, context_of, label_of_test}
 use Rattle.block_cache_gen.specs.declared.frames.CodeBuf.{CodeBuf}
 use Rattle.block_cache_gen.specs.declared.frames.Mode.TheVariants.{Public}
-use Rattle.block_cache_gen.specs.Homes.{Setting}
-use Rattle.block_cache_gen.specs.Codes.{guard_code}
-use Rattle.block_cache_gen.specs.Notes.{guard_notes}
-use Rattle.block_cache_gen.specs.Emitted.{Appended, no_notes, EmitsGuard}
+use Rattle.block_cache_gen.specs.Prelude.{Setting, guard_code, guard_notes, Appended, no_notes, EmitsGuard}
 use Rattle.block_cache_gen.proofs.Emitting.{appended_length}
 use Rattle.block_cache_gen.proofs.SomeCode.{guard_code-some, set_code-some}
-use Rattle.branch_padding.specs.Padded.{region_code, first_of, second_of}
-use Rattle.branch_padding.specs.AfterStatements.{after}
-use Rattle.code_gen.specs.Statements.{opposite, second_code, places_over, choice_code, choice_by, statement_code, block_code, block_notes, block_ends_noted, head_note, head_unless, choice_notes, notes_by}
-use Rattle.code_gen.specs.Emitted.{padding_of, EmitsStatement, EmitsBlock, ClosesChoice, before_second, second_notes}
+use Rattle.branch_padding.specs.Prelude.{region_code, first_of, second_of, after}
+use Rattle.code_gen.specs.Prelude.{opposite, second_code, places_over, choice_code, choice_by, statement_code, block_code, block_notes, block_ends_noted, head_note, head_unless, choice_notes, notes_by, padding_of, EmitsStatement, EmitsBlock, ClosesChoice, before_second, second_notes}
 use Rattle.code_gen.proofs.EmittedParts.{guard-length}
+use Rattle.gr_word.specs.declared.variables.Label.TheVariants as label
 
 -- some code followed by more
 pub longer : (xs ys : List Instr) → 1 ≤ length xs → 1 ≤ length (xs ++ ys)

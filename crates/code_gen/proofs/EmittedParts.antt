@@ -4,27 +4,18 @@ use Rattle.std.specs.Prelude.{OnOk}
 use Rattle.std.proofs.lemmas.Bool.{ne_eqb}
 use Rattle.std.proofs.lemmas.List.{length-append, length-set}
 use Rattle.std.proofs.Math.Seq.{set-append_seam}
-use Rattle.gr_word.specs.declared.variables.Label.TheVariants as label
 use Rattle.lt_isa.specs.declared.instructions.Instr.{Instr}
 use Rattle.lt_isa.specs.declared.instructions.Instr.TheVariants.{Jmp, Br}
 use Rattle.src_tree.specs.declared.trees.Decl.{Decl}
-use Rattle.src_tree.specs.Trees.{Tree, Number, Variable, Element, Operation, Test, Statement, SetVariable, SetElement, Choice, Loop, Block, Nothing, Then}
-use Rattle.src_tree.specs.Contexts.{Context, context_of}
-use Rattle.src_tree.specs.Labels.{label_of_test}
-use Rattle.src_tree.specs.Limits.{tree_weight, test_weight, parts_weight, statement_weight, block_weight}
+use Rattle.src_tree.specs.Prelude.{Tree, Number, Variable, Element, Operation, Test, Statement, SetVariable, SetElement, Choice, Loop, Block, Nothing, Then, Context, context_of, label_of_test, tree_weight, test_weight, parts_weight, statement_weight, block_weight}
 use Rattle.block_cache_gen.specs.declared.frames.CodeBuf.{CodeBuf}
 use Rattle.block_cache_gen.specs.declared.frames.Mode.TheVariants.{Public}
-use Rattle.block_cache_gen.specs.Homes.{Setting}
-use Rattle.block_cache_gen.specs.Codes.{expr_code, guard_code, set_code}
-use Rattle.block_cache_gen.specs.Notes.{guard_notes, set_notes}
-use Rattle.block_cache_gen.specs.Emitted.{Appended, no_notes, EmitsGuard, EmitsSet}
-use Rattle.block_cache_gen.specs.ProgramWords.{BlockHasWords}
-use Rattle.block_cache_gen.specs.TreeWords.{TestHasWords}
+use Rattle.block_cache_gen.specs.Prelude.{Setting, expr_code, guard_code, set_code, guard_notes, set_notes, Appended, no_notes, EmitsGuard, EmitsSet, BlockHasWords, TestHasWords}
 use Rattle.block_cache_gen.proofs.Emitting.{appended_then, appended_length}
 use Rattle.block_cache_gen.proofs.Sizes.{expr_code_short, set_code_short}
-use Rattle.branch_padding.specs.AfterStatements.{after, behind_loop, within_loop}
-use Rattle.code_gen.specs.Statements.{statement_code, block_code, statement_notes, block_notes, block_ends_noted, head_note, head_unless, guard_note}
-use Rattle.code_gen.specs.Emitted.{padding_of, EmitsStatement, EmitsBlock, ClosesLoop, Puts, noted_behind}
+use Rattle.branch_padding.specs.Prelude.{after, behind_loop, within_loop}
+use Rattle.code_gen.specs.Prelude.{statement_code, block_code, statement_notes, block_notes, block_ends_noted, head_note, head_unless, guard_note, padding_of, EmitsStatement, EmitsBlock, ClosesLoop, Puts, noted_behind}
+use Rattle.gr_word.specs.declared.variables.Label.TheVariants as label
 
 pub tree_weight-some : (e : Tree) → 1 ≤ tree_weight e
 tree_weight-some (Number z) = omega arith

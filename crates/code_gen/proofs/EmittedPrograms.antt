@@ -6,14 +6,11 @@ use Rattle.lt_isa.specs.declared.instructions.Instr.{Instr}
 use Rattle.lt_isa.specs.declared.instructions.Instr.TheVariants.{Li}
 use Rattle.bank_alloc.specs.declared.places.Place.{Place}
 use Rattle.block_cache_gen.specs.declared.frames.CodeBuf.{CodeBuf}
-use Rattle.block_cache_gen.specs.Emitted.{Appended, no_notes}
+use Rattle.block_cache_gen.specs.Prelude.{Appended, no_notes, home_numbered, each_held, Held, Home, Setting, IsFrame, home_at, setting_of}
 use Rattle.scratch_alloc.specs.declared.plans.Pin.{Pin}
-use Rattle.scratch_alloc.specs.Plans.{no_place}
+use Rattle.scratch_alloc.specs.Prelude.{no_place}
 use Rattle.held_registers.specs.declared.registers.Held.TheVariants.{Scalar}
 use Rattle.block_cache_gen.specs.declared.frames.Frame.{Frame}
-use Rattle.block_cache_gen.specs.HeldCodes.{home_numbered, each_held}
-use Rattle.block_cache_gen.specs.Homes.{Held, Home, Setting}
-use Rattle.block_cache_gen.specs.Settings.{IsFrame, home_at, setting_of}
 use Rattle.block_cache_gen.proofs.FrameParts.{frame_places, frame_slots}
 use Rattle.block_cache_gen.proofs.HeldBeginning.{held-at}
 use Rattle.block_cache_gen.proofs.Settled.{get_or-homes_at}
@@ -21,7 +18,7 @@ use Rattle.block_cache_gen.proofs.Emitting.{silent_behind}
 use Rattle.branch_padding.proofs.EmittedRegions.{appended-none}
 use Rattle.code_gen.specs.declared.programs.Phase.{Phase}
 use Rattle.code_gen.specs.declared.programs.Phase.TheVariants.{Beginning, Ending}
-use Rattle.code_gen.specs.Programs.{access, each_slot, register_code}
+use Rattle.code_gen.specs.Prelude.{access, each_slot, register_code}
 
 -- what is appended from a slot on, to the end
 abbrev pub SlotsAppended : (ℕ → Option Pin → List Instr) → List (Option Pin) → ℕ → CodeBuf → CodeBuf → Type 0

@@ -9,24 +9,17 @@ use Rattle.gr_word.specs.declared.variables.Label.{Label}
 use Rattle.gr_word.specs.declared.variables.Shape.{Shape}
 use Rattle.gr_word.specs.declared.variables.Shape.TheVariants.{Scalar, Array}
 use Rattle.lt_isa.specs.declared.instructions.Instr.TheVariants.{Stb}
-use Rattle.lt_isa.specs.Object.{Parts}
-use Rattle.lt_isa.specs.Ranges.{IsInRange}
-use Rattle.lt_isa.specs.Machine.{Unbound, Bound, State, Observed, slot, bank_blocks, block_at, word_in, set_block, slot_words, write_event}
-use Rattle.lt_isa.specs.Outputs.{bank_word_numbered}
-use Rattle.lt_isa.specs.Shape.{IsShaped}
-use Rattle.src_tree.specs.Contexts.{context_of}
-use Rattle.src_tree.specs.Meaning.{Store, variable_number, words_of_number}
-use Rattle.stretches.specs.Standing.{StandsAt, greatest_costs}
-use Rattle.stretches.specs.Coming.{RunsThrough}
+use Rattle.lt_isa.specs.Prelude.{Parts, IsInRange, Unbound, Bound, State, Observed, slot, bank_blocks, block_at, word_in, set_block, slot_words, write_event, bank_word_numbered, IsShaped}
+use Rattle.src_tree.specs.Prelude.{context_of, Store, variable_number, words_of_number}
+use Rattle.stretches.specs.Prelude.{StandsAt, greatest_costs, RunsThrough}
 use Rattle.stretches.proofs.Standing.{standing-head}
 use Rattle.stretches.proofs.Coming.{comes-here, comes-stb, comes-weaker}
 use Rattle.stretches.proofs.RunningThrough.{runs-append, runs-weaker}
 use Rattle.scratch_alloc.specs.declared.plans.Pin.{Pin}
-use Rattle.block_cache_gen.specs.Homes.{Setting, HasHomes, pin_at, home_of, slot_of_word, register_for, words_a_block, start_of_home}
-use Rattle.block_cache_gen.specs.StandsFor.{StandsFor}
-use Rattle.scratch_alloc.specs.Plans.{pin_to}
+use Rattle.block_cache_gen.specs.Prelude.{Setting, HasHomes, pin_at, home_of, slot_of_word, register_for, words_a_block, start_of_home, StandsFor}
+use Rattle.scratch_alloc.specs.Prelude.{pin_to}
 use Rattle.block_cache_gen.proofs.HomeFacts.{block_words-is}
-use Rattle.code_gen.specs.Programs.{pin_store, each_slot}
+use Rattle.code_gen.specs.Prelude.{pin_store, each_slot}
 use Rattle.code_gen.proofs.Started.{BanksHold, word-in_block, resident-pinned}
 
 -- what the stores of pinned slots show, from slot k on

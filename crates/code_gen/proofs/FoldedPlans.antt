@@ -2,23 +2,17 @@
 -- means.
 use Rattle.std.proofs.Common.{◌≡◌, ℕ, ◌+◌, ◌*◌, ◌≤◌, Bool, true, false, ◌&&◌, ◌||◌, List, length, refl, sym, ap, ◌∙◌, arith}
 use Rattle.std.specs.Prelude.{bytes_eq}
-use Rattle.lt_isa.specs.Object.{Parts}
+use Rattle.lt_isa.specs.Prelude.{Parts}
 use Rattle.gr_word.specs.declared.operations.Op.{Op}
 use Rattle.src_tree.specs.declared.trees.Decl.{Decl}
-use Rattle.src_tree.specs.Contexts.{Context, context_of}
-use Rattle.src_tree.specs.Labels.{label_of, secret_label}
-use Rattle.src_tree.specs.Limits.{weight_of}
-use Rattle.src_tree.specs.Trees.{Tree, Number, Variable, Element, Operation, Test, Statement, SetVariable, SetElement, Choice, Loop, Block, Nothing, Then, Source}
-use Rattle.flow_types.specs.Wants.{declared_wants}
-use Rattle.bank_alloc.specs.Classes.{class_by, class_of}
-use Rattle.bank_alloc.specs.Layout.{IsLaidOut}
-use Rattle.bank_alloc.specs.Indexes.{secret_index_in, secret_index_in_test, secret_index_in_statement, secret_index_in_block}
-use Rattle.scratch_alloc.specs.Plans.{Plan, IsSoundPlan, decl_at}
-use Rattle.source_folding.specs.Folded.{folded, folded_test, folded_statement, folded_block, folded_source}
-use Rattle.source_folding.specs.Numbers.{BlockNumbersFit}
+use Rattle.src_tree.specs.Prelude.{Context, context_of, label_of, secret_label, weight_of, Tree, Number, Variable, Element, Operation, Test, Statement, SetVariable, SetElement, Choice, Loop, Block, Nothing, Then, Source}
+use Rattle.flow_types.specs.Prelude.{declared_wants}
+use Rattle.bank_alloc.specs.Prelude.{class_by, class_of, IsLaidOut, secret_index_in, secret_index_in_test, secret_index_in_statement, secret_index_in_block}
+use Rattle.scratch_alloc.specs.Prelude.{Plan, IsSoundPlan, decl_at}
+use Rattle.source_folding.specs.Prelude.{folded, folded_test, folded_statement, folded_block, folded_source, BlockNumbersFit}
 use Rattle.source_folding.proofs.FoldedTrees.{Made, AsBefore, Computed, Swapped, Shifted, SwappedShift, Masked, is-made, folded-label}
 use Rattle.source_folding.proofs.FoldedPrograms.{folded-means, folded-weighs}
-use Rattle.compiled_objects.specs.Implements.{Implements}
+use Rattle.compiled_objects.specs.Prelude.{Implements}
 
 or-swapped : (a b : Bool) → (a || b) ≡ (b || a)
 or-swapped true true = refl

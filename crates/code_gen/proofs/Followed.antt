@@ -4,29 +4,20 @@ use Rattle.std.proofs.Common.{◌≡◌, ℕ, ◌+◌, List, length, refl, subst
 use Rattle.gr_word.specs.declared.variables.Label.{Label}
 use Rattle.gr_word.specs.declared.variables.Label.TheVariants.{Public, Secret}
 use Rattle.lt_isa.specs.declared.instructions.Instr.{Instr}
-use Rattle.lt_isa.specs.Object.{Parts}
-use Rattle.lt_isa.specs.Ranges.{IsInRange}
-use Rattle.stretches.specs.Standing.{StandsAt}
+use Rattle.lt_isa.specs.Prelude.{Parts, IsInRange}
+use Rattle.stretches.specs.Prelude.{StandsAt}
 use Rattle.stretches.proofs.Standing.{standing-first, standing-rest}
-use Rattle.src_tree.specs.Trees.{Tree, Test, Statement, SetVariable, SetElement, Choice, Loop, Block, Nothing, Then}
-use Rattle.src_tree.specs.Contexts.{context_of}
-use Rattle.src_tree.specs.Labels.{label_of_test}
-use Rattle.src_tree.specs.Limits.{Low, LowStatement, LowBlock}
-use Rattle.src_tree.specs.Typing.{TypedTest, TypedStatement, TypedBlock}
-use Rattle.src_tree.specs.Meaning.{Execution, variable_number, evaluated, guard_holds, scalar_set, element_set, run_of, run_of_block}
-use Rattle.scalar_ranges.specs.Known.{after_statement, forgotten_block, inside}
-use Rattle.scalar_ranges.specs.Ranges.{AreOfPublic, Ranges}
+use Rattle.src_tree.specs.Prelude.{Tree, Test, Statement, SetVariable, SetElement, Choice, Loop, Block, Nothing, Then, context_of, label_of_test, Low, LowStatement, LowBlock, TypedTest, TypedStatement, TypedBlock, Execution, variable_number, evaluated, guard_holds, scalar_set, element_set, run_of, run_of_block}
+use Rattle.scalar_ranges.specs.Prelude.{after_statement, forgotten_block, inside, AreOfPublic, Ranges}
 use Rattle.scalar_ranges.proofs.Passing.{statement-within}
 use Rattle.scalar_ranges.proofs.PublicOnly.{after-public, inside-public}
-use Rattle.block_cache_gen.specs.declared.frames.Mode.TheVariants as mode
-use Rattle.block_cache_gen.specs.Homes.{Setting, ranged}
-use Rattle.block_cache_gen.specs.Codes.{guard_code, set_code}
+use Rattle.block_cache_gen.specs.Prelude.{Setting, ranged, guard_code, set_code}
 use Rattle.block_cache_gen.proofs.SomeCode.{guard_code-some}
-use Rattle.code_gen.specs.Follows.{Follows}
-use Rattle.code_gen.specs.Statements.{Padding, choice_by, statement_code, block_code}
+use Rattle.code_gen.specs.Prelude.{Follows, Padding, choice_by, statement_code, block_code}
 use Rattle.code_gen.proofs.Following.{Tests, Changes, follows-none, follows-change, follows-append}
 use Rattle.code_gen.proofs.Choosing.{standing-choice_guard, standing-choice_first, standing-choice_second, follows-choice}
 use Rattle.code_gen.proofs.Turning.{standing-loop_guard, standing-loop_body, follows-loop}
+use Rattle.block_cache_gen.specs.declared.frames.Mode.TheVariants as mode
 
 -- What is wanted of the code of guards, of assignments, and of branches on secrets, for all that may be known at its place.
 pub record PartsFollow (o : Parts) (f : Setting) (padded : Padding) : Type 0 where

@@ -3,26 +3,19 @@ use Rattle.std.proofs.Common.{◌≡◌, ℕ, ◌+◌, ◌*◌, ◌≤◌, Bool,
 use Rattle.std.specs.Option.{option_and_then}
 use Rattle.std.proofs.lemmas.List.{length-append}
 use Rattle.std.proofs.lemmas.Option.{none-some}
-use Rattle.gr_word.specs.Words.{compared}
+use Rattle.gr_word.specs.Prelude.{compared}
 use Rattle.gr_word.specs.declared.operations.Cmp.{Cmp}
 use Rattle.lt_isa.specs.declared.instructions.Instr.{Instr}
-use Rattle.lt_isa.specs.Object.{Parts}
-use Rattle.lt_isa.specs.Ranges.{IsInRange}
-use Rattle.lt_isa.specs.Machine.{State, Observed, register}
-use Rattle.lt_isa.specs.Shape.{IsShaped}
-use Rattle.lt_isa.specs.Trace.{Here}
+use Rattle.lt_isa.specs.Prelude.{Parts, IsInRange, State, Observed, register, IsShaped, Here}
 use Rattle.lt_isa.proofs.Stretches.{reaches-append, reaches-cycle}
-use Rattle.stretches.specs.Standing.{greatest_costs}
-use Rattle.stretches.specs.Coming.{Comes}
+use Rattle.stretches.specs.Prelude.{greatest_costs, Comes}
 use Rattle.stretches.proofs.Standing.{greatest_costs-append}
-use Rattle.src_tree.specs.Meaning.{Store, Left, Execution, in_turn}
+use Rattle.src_tree.specs.Prelude.{Store, Left, Execution, in_turn}
 use Rattle.src_tree.proofs.Loops.{left}
-use Rattle.scalar_ranges.specs.Ranges.{AreWithin, Ranges}
-use Rattle.block_cache_gen.specs.Homes.{Setting}
-use Rattle.block_cache_gen.specs.StandsFor.{FitsHomes, StandsFor}
-use Rattle.block_cache_gen.specs.Assignments.{Assigns}
+use Rattle.scalar_ranges.specs.Prelude.{AreWithin, Ranges}
+use Rattle.block_cache_gen.specs.Prelude.{Setting, FitsHomes, StandsFor, Assigns}
 use Rattle.block_cache_gen.proofs.Stands.{stands-like}
-use Rattle.code_gen.specs.Follows.{Finishes, Lasts, Follows}
+use Rattle.code_gen.specs.Prelude.{Finishes, Lasts, Follows}
 
 -- what a number of turns costs: each once more than they are
 once : (c u : ℕ) → c ≤ c * (u + 1)

@@ -6,31 +6,21 @@ use Rattle.std.specs.List.{slice_get}
 use Rattle.std.proofs.lemmas.Bool.{cases_eq, le-ltb, ltb-false}
 use Rattle.std.proofs.lemmas.List.{get_or-set_same, set-set}
 use Rattle.std.proofs.lemmas.Option.{slice_get_within}
-use Rattle.gr_word.specs.Words.{IsWord}
+use Rattle.gr_word.specs.Prelude.{IsWord}
 use Rattle.gr_word.specs.declared.variables.Label.{Label}
 use Rattle.gr_word.specs.declared.variables.Shape.TheVariants.{Scalar, Array}
 use Rattle.lt_isa.specs.declared.instructions.Instr.TheVariants.{Li, Stw}
-use Rattle.lt_isa.specs.Object.{Parts, block_words}
-use Rattle.lt_isa.specs.Ranges.{IsInRange}
-use Rattle.lt_isa.specs.Machine.{State, Slot, Bound, register, slot, word_in, set_slot, slot_words}
-use Rattle.lt_isa.specs.Shape.{IsShaped}
-use Rattle.lt_isa.specs.Step.{word_named}
+use Rattle.lt_isa.specs.Prelude.{Parts, block_words, IsInRange, State, Slot, Bound, register, slot, word_in, set_slot, slot_words, IsShaped, word_named}
 use Rattle.lt_isa.proofs.Steps.{bound-fits}
-use Rattle.stretches.specs.Standing.{StandsAt, greatest_costs}
-use Rattle.stretches.specs.Coming.{Comes, RunsThrough, Sets}
+use Rattle.stretches.specs.Prelude.{StandsAt, greatest_costs, Comes, RunsThrough, Sets}
 use Rattle.stretches.proofs.Coming.{comes-here, comes-stw}
 use Rattle.stretches.proofs.RunningThrough.{runs-cons, runs-one, runs-append, runs-weaker, sets-li}
 use Rattle.src_tree.specs.declared.trees.Decl.{Decl}
-use Rattle.src_tree.specs.Contexts.{context_of}
-use Rattle.src_tree.specs.Meaning.{Store, variable_number, words_of_number, scalar, with_word}
-use Rattle.src_tree.specs.Typing.{DeclaredOnce}
+use Rattle.src_tree.specs.Prelude.{context_of, Store, variable_number, words_of_number, scalar, with_word, DeclaredOnce}
 use Rattle.src_tree.proofs.VariableNumbers.{number-below}
-use Rattle.held_registers.specs.declared.registers.Held.TheVariants as thing
-use Rattle.held_registers.specs.Held.{held_at, word_held, secret_zero, public_zero, IsSoundHeld}
+use Rattle.held_registers.specs.Prelude.{held_at, word_held, secret_zero, public_zero, IsSoundHeld}
 use Rattle.held_registers.proofs.Found.{held-high, scalar-held}
-use Rattle.block_cache_gen.specs.HeldCodes.{home_numbered, end_code, each_held, held_ending}
-use Rattle.block_cache_gen.specs.Homes.{Held, Home, Setting, HasHomes, home_of, no_home, pin_of, register_for, slot_of_word, words_a_block}
-use Rattle.block_cache_gen.specs.StandsFor.{StandsFor, FitsHomes}
+use Rattle.block_cache_gen.specs.Prelude.{home_numbered, end_code, each_held, held_ending, Held, Home, Setting, HasHomes, home_of, no_home, pin_of, register_for, slot_of_word, words_a_block, StandsFor, FitsHomes}
 use Rattle.block_cache_gen.proofs.HeldBeginning.{HasName, unheld, held-name}
 use Rattle.block_cache_gen.proofs.HeldScalars.{array-free, held-listed, held-words, scalar-found}
 use Rattle.block_cache_gen.proofs.HomeFacts.{block_words-is}
@@ -38,6 +28,7 @@ use Rattle.block_cache_gen.proofs.WordSlots.{one-block, single-word}
 use Rattle.block_cache_gen.proofs.ResidentStores.{stands-single_set}
 use Rattle.block_cache_gen.proofs.Stands.{stands-like, stands-set}
 use Rattle.block_cache_gen.proofs.Stores.{fits-with_word, with_word-itself, words-other, words-same}
+use Rattle.held_registers.specs.declared.registers.Held.TheVariants as thing
 
 -- one thing in a list of held things
 get-other : (done rest : List Held) (x y : Held) (j : ℕ) → j ≢ length done

@@ -3,23 +3,19 @@ use Rattle.std.proofs.Common.{ℕ, ◌+◌, ◌-◌, ◌^◌, ◌<◌, ◌≤◌
 use Rattle.std.specs.Prelude.{All, is_some, nat_lt, ◌==◌, if◌then◌else◌}
 use Rattle.std.proofs.lemmas.List.Elements.{All-from_get_or, All-head, All-tail}
 use Rattle.std.proofs.Math.Pow.{pow_mono}
-use Rattle.gr_word.specs.Words.{IsWord}
+use Rattle.gr_word.specs.Prelude.{IsWord}
 use Rattle.bank_alloc.specs.declared.places.Place.{Place}
-use Rattle.src_tree.specs.Limits.{IsWithinLimits}
-use Rattle.scratch_alloc.specs.Plans.{Plan, IsSoundPlan, no_place}
-use Rattle.block_cache_gen.specs.Codes.{is_masked}
-use Rattle.block_cache_gen.specs.Settings.{home_at}
+use Rattle.src_tree.specs.Prelude.{IsWithinLimits, Tree, Number, Variable, Element, Operation, Test, Statement, SetVariable, SetElement, Choice, Loop, Block, Nothing, Then, Source}
+use Rattle.scratch_alloc.specs.Prelude.{Plan, IsSoundPlan, no_place}
+use Rattle.block_cache_gen.specs.Prelude.{is_masked, home_at, BlockHasWords, StatementHasWords, HasWords, TestHasWords}
 use Rattle.block_cache_gen.proofs.RangesOfCode.{small-word}
 use Rattle.block_cache_gen.proofs.Settled.{place-length}
 use Rattle.src_tree.specs.declared.trees.Decl.{Decl}
-use Rattle.src_tree.specs.Trees.{Tree, Number, Variable, Element, Operation, Test, Statement, SetVariable, SetElement, Choice, Loop, Block, Nothing, Then, Source}
 use Rattle.held_registers.specs.declared.registers.Held.{Held}
-use Rattle.held_registers.specs.declared.registers.Held.TheVariants as thing
-use Rattle.held_registers.specs.Held.{held_scalars, register_of_number, scalars_behind, takes_register, with_number, with_scalar, zeros, IsSoundHeld}
+use Rattle.held_registers.specs.Prelude.{held_scalars, register_of_number, scalars_behind, takes_register, with_number, with_scalar, zeros, IsSoundHeld}
 use Rattle.held_registers.proofs.Sound.{held_scalars-sound, with_number-sound}
-use Rattle.block_cache_gen.specs.ProgramWords.{BlockHasWords, StatementHasWords}
-use Rattle.block_cache_gen.specs.TreeWords.{HasWords, TestHasWords}
-use Rattle.compiled_objects.specs.HeldNumbers.{held_for, reducer_at, with_block, with_place, with_places, with_statement, with_test, with_tree}
+use Rattle.compiled_objects.specs.Prelude.{held_for, reducer_at, with_block, with_place, with_places, with_statement, with_test, with_tree}
+use Rattle.held_registers.specs.declared.registers.Held.TheVariants as thing
 
 -- sound, and the zeros are among them
 record SoundSome (decls : List Decl) (held : List Held) : Type 0 where

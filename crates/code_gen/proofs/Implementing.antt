@@ -5,44 +5,28 @@ use Rattle.std.specs.Prelude.{slice_get}
 use Rattle.std.specs.Option.{option_map}
 use Rattle.std.proofs.lemmas.List.Elements.{Contains-append_right}
 use Rattle.std.proofs.Math.Nat.{mul-le-mul_left, mul-le-mul_right}
-use Rattle.gr_word.specs.Fitting.{FitsWants}
+use Rattle.gr_word.specs.Prelude.{FitsWants}
 use Rattle.lt_isa.specs.declared.instructions.Instr.{Instr}
 use Rattle.lt_isa.specs.declared.instructions.Instr.TheVariants.{Halt}
-use Rattle.lt_isa.specs.Object.{Parts}
-use Rattle.lt_isa.specs.Ranges.{IsInRange}
-use Rattle.lt_isa.specs.Machine.{State, Halted}
-use Rattle.lt_isa.specs.Step.{Stops, step, step_start, passed}
-use Rattle.lt_isa.specs.Shape.{IsShaped}
-use Rattle.lt_isa.specs.Trace.{Stamped, stamped, seen_at, trace_from, final_from, HaltsAt, Reaches}
-use Rattle.lt_isa.specs.Start.{FitsObject, start_state, final}
-use Rattle.lt_isa.specs.Outputs.{outputs}
+use Rattle.lt_isa.specs.Prelude.{Parts, IsInRange, State, Halted, Stops, step, step_start, passed, IsShaped, Stamped, stamped, seen_at, trace_from, final_from, HaltsAt, Reaches, FitsObject, start_state, final, outputs}
 use Rattle.lt_isa.proofs.Steps.{step-at, step_start-at}
 use Rattle.lt_isa.proofs.Starts.{IsShaped-start, place-start, cycle-start, slot-start}
 use Rattle.lt_isa.proofs.Runs.{trace_from-stops}
 use Rattle.lt_isa.proofs.Stretches.{below, reaches-append, reaches-shaped, trace_split, final_split-stops}
 use Rattle.lt_isa.proofs.Ends.{final_halted}
-use Rattle.stretches.specs.Standing.{StandsAt, greatest_costs}
-use Rattle.stretches.specs.Coming.{Comes, RunsThrough}
+use Rattle.stretches.specs.Prelude.{StandsAt, greatest_costs, Comes, RunsThrough}
 use Rattle.stretches.proofs.Standing.{standing-first, standing-rest, standing-head, greatest_costs-append, standing-whole}
 use Rattle.stretches.proofs.Coming.{comes-weaker}
 use Rattle.stretches.proofs.RunningThrough.{runs-append}
 use Rattle.lt_isa.proofs.Lasting.{lasting-no_halt}
-use Rattle.src_tree.specs.Trees.{Source}
-use Rattle.src_tree.specs.Meaning.{Store, Left, run_of_block, meaning, words_of_number}
-use Rattle.flow_types.specs.Wants.{declared_wants}
-use Rattle.src_tree.specs.Typing.{DeclaredOnce}
-use Rattle.scalar_ranges.specs.Ranges.{AreWithin}
+use Rattle.src_tree.specs.Prelude.{Source, Store, Left, run_of_block, meaning, words_of_number, DeclaredOnce}
+use Rattle.flow_types.specs.Prelude.{declared_wants}
+use Rattle.scalar_ranges.specs.Prelude.{AreWithin}
 use Rattle.held_registers.proofs.Sound.{nothing-sound}
-use Rattle.block_cache_gen.specs.HeldCodes.{held_beginning, held_ending, HasSecretSlot}
-use Rattle.block_cache_gen.specs.Homes.{Setting, HasHomes}
-use Rattle.block_cache_gen.specs.ServedBlocks.{first_blocks}
-use Rattle.block_cache_gen.specs.StandsFor.{StandsFor, FitsHomes}
-use Rattle.compiled_objects.specs.Implements.{Implements, HasSymbols, by_name}
-use Rattle.code_gen.specs.Statements.{Padding, block_code}
+use Rattle.block_cache_gen.specs.Prelude.{held_beginning, held_ending, HasSecretSlot, Setting, HasHomes, first_blocks, StandsFor, FitsHomes}
+use Rattle.compiled_objects.specs.Prelude.{Implements, HasSymbols, by_name, at_start}
+use Rattle.code_gen.specs.Prelude.{Padding, block_code, load_code, pin_store, each_slot, beginning, ending, program_code, Follows, Finishes, Lasts}
 use Rattle.block_cache_gen.proofs.HeldBeginning.{unheld, runs-held_beginning}
-use Rattle.code_gen.specs.Programs.{load_code, pin_store, each_slot, beginning, ending, program_code}
-use Rattle.compiled_objects.specs.Compiles.{at_start}
-use Rattle.code_gen.specs.Follows.{Follows, Finishes, Lasts}
 use Rattle.code_gen.proofs.AtStart.{start-within}
 use Rattle.code_gen.proofs.Loads.{LoadedTo, loads_shown, comes-slots}
 use Rattle.code_gen.proofs.Started.{BanksHold, stands-started}

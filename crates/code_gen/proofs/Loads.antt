@@ -4,20 +4,14 @@ use Rattle.std.proofs.lemmas.Bool.{cases_eq}
 use Rattle.std.proofs.lemmas.List.{get_or-set_same, get_or-set_other}
 use Rattle.std.proofs.Math.Nat.{mod-eq_of_lt}
 use Rattle.lt_isa.specs.declared.instructions.Instr.TheVariants.{Li, Ldb}
-use Rattle.lt_isa.specs.Object.{Parts, blocks_of}
-use Rattle.lt_isa.specs.Ranges.{IsInRange}
-use Rattle.lt_isa.specs.Machine.{State, Slot, Unbound, Bound, Observed, register, slot, block_at, read_event}
-use Rattle.lt_isa.specs.Step.{block_named, loaded, passed}
-use Rattle.lt_isa.specs.Shape.{IsShaped}
-use Rattle.stretches.specs.Standing.{StandsAt, greatest_costs}
-use Rattle.stretches.specs.Coming.{RunsThrough}
+use Rattle.lt_isa.specs.Prelude.{Parts, blocks_of, IsInRange, State, Slot, Unbound, Bound, Observed, register, slot, block_at, read_event, block_named, loaded, passed, IsShaped}
+use Rattle.stretches.specs.Prelude.{StandsAt, greatest_costs, RunsThrough}
 use Rattle.stretches.proofs.RunningThrough.{runs-append}
 use Rattle.stretches.proofs.Standing.{standing-head}
 use Rattle.stretches.proofs.Coming.{comes-here, comes-weaker, comes-ldb, comes-li}
 use Rattle.scratch_alloc.specs.declared.plans.Pin.{Pin}
-use Rattle.block_cache_gen.specs.Homes.{Setting}
-use Rattle.block_cache_gen.specs.ServedBlocks.{first_blocks}
-use Rattle.code_gen.specs.Programs.{load_code, each_slot}
+use Rattle.block_cache_gen.specs.Prelude.{Setting, first_blocks}
+use Rattle.code_gen.specs.Prelude.{load_code, each_slot}
 
 -- the block that a number names
 abbrev pub named : Parts → (bank block : ℕ) → ℕ

@@ -1,9 +1,9 @@
 -- The opposite of a comparison holds exactly where the comparison fails.
 use Rattle.std.proofs.Common.{◌≡◌, ℕ, Bool, true, false, not, ℤ, pos, negsuc, int_lt, int_le, nat_lt, nat_le, refl, sym, ap, ◌∙◌, arith}
-use Rattle.gr_word.specs.Words.{compared}
+use Rattle.gr_word.specs.Prelude.{compared}
 use Rattle.gr_word.specs.declared.operations.Cmp.{Cmp}
 use Rattle.gr_word.specs.declared.operations.Cmp.TheVariants.{Eq, Ne, Lt, Le, Gt, Ge}
-use Rattle.code_gen.specs.Statements.{opposite}
+use Rattle.code_gen.specs.Prelude.{opposite}
 
 twice : (b : Bool) → b ≡ not (not b)
 twice true = refl

@@ -5,34 +5,23 @@ use Rattle.std.specs.Option.{option_map}
 use Rattle.std.proofs.lemmas.Bool.{cases_lt}
 use Rattle.gr_word.specs.declared.operations.Cmp.{Cmp}
 use Rattle.gr_word.specs.declared.variables.Label.{Label}
-use Rattle.gr_word.specs.declared.variables.Label.TheVariants as label
 use Rattle.lt_isa.specs.declared.symbols.Note.{Note}
 use Rattle.lt_isa.specs.declared.instructions.Instr.{Instr}
 use Rattle.lt_isa.specs.declared.instructions.Instr.TheVariants.{Jmp, Br}
-use Rattle.lt_isa.specs.Object.{Parts}
-use Rattle.lt_isa.specs.Step.{target_of}
-use Rattle.src_tree.specs.Contexts.{context_of}
-use Rattle.src_tree.specs.Heights.{height_of}
-use Rattle.src_tree.specs.Labels.{higher, label_of, label_of_test, secret_label}
-use Rattle.src_tree.specs.Trees.{Test}
-use Rattle.src_tree.specs.Typing.{TypedTest, DeclaredOnce}
-use Rattle.trace_patterns.specs.Known.{Known, is_secret, note_known}
-use Rattle.trace_patterns.specs.Rules.{note_of_place, claimed_at}
-use Rattle.stretches.specs.Standing.{StandsAt}
-use Rattle.stretches.specs.Passing.{AsItComes, Passes, Done, Away, NotesBetween}
+use Rattle.lt_isa.specs.Prelude.{Parts, target_of}
+use Rattle.src_tree.specs.Prelude.{context_of, height_of, higher, label_of, label_of_test, secret_label, Test, TypedTest, DeclaredOnce}
+use Rattle.trace_patterns.specs.Prelude.{Known, is_secret, note_known, note_of_place, claimed_at}
+use Rattle.stretches.specs.Prelude.{StandsAt, AsItComes, Passes, Done, Away, NotesBetween}
 use Rattle.stretches.proofs.Standing.{standing-first, standing-rest, standing-head, standing-tail}
 use Rattle.stretches.proofs.Passed.{passes-then, passes-to, passes-one, ruled-at, branch-falls, jump-leaves, LieBetween, no_note-before, no_note-behind, note_at-first, note_at-second}
 use Rattle.block_cache_gen.specs.declared.frames.Mode.TheVariants.{Public}
-use Rattle.block_cache_gen.specs.Homes.{Setting, HasHomes}
-use Rattle.block_cache_gen.specs.Codes.{expr_code, guard_code}
-use Rattle.block_cache_gen.specs.Notes.{guard_notes}
-use Rattle.block_cache_gen.specs.Carries.{Carries}
-use Rattle.block_cache_gen.specs.PublicIndexes.{TestHasPublicIndexes}
+use Rattle.block_cache_gen.specs.Prelude.{Setting, HasHomes, expr_code, guard_code, guard_notes, Carries, TestHasPublicIndexes}
 use Rattle.block_cache_gen.proofs.NotesOfCode.{expression-longer}
 use Rattle.block_cache_gen.proofs.PublicGuards.{guard-lie, guard-passes}
 use Rattle.block_cache_gen.proofs.RangesOfNotes.{NotesRise, rise-wider, rise-then, guard-rises}
-use Rattle.code_gen.specs.Statements.{opposite, choice_code, head_note}
+use Rattle.code_gen.specs.Prelude.{opposite, choice_code, head_note}
 use Rattle.code_gen.proofs.PassedParts.{head_claim, IsOpenAt, IsPassed, IsNoted, rise-lies, closed, closed_by, closed_other, closed_found, closed_rises, fits-head, held-open, stands-as}
+use Rattle.gr_word.specs.declared.variables.Label.TheVariants as label
 
 -- the sides of a public guard
 public_sides : (l r : Label) → higher l r ≡ label.Public → (l ≡ label.Public) × (r ≡ label.Public)

@@ -5,20 +5,16 @@ use Rattle.std.specs.Option.{option_map}
 use Rattle.lt_isa.specs.declared.symbols.Note.{Note}
 use Rattle.lt_isa.specs.declared.instructions.Instr.{Instr}
 use Rattle.lt_isa.specs.declared.instructions.Instr.TheVariants.{Jmp, Br}
-use Rattle.lt_isa.specs.Object.{Parts}
-use Rattle.src_tree.specs.Trees.{Test}
-use Rattle.src_tree.specs.Typing.{DeclaredOnce}
-use Rattle.trace_patterns.specs.Known.{note_known}
-use Rattle.trace_patterns.specs.Rules.{note_of_place, claimed_at}
+use Rattle.lt_isa.specs.Prelude.{Parts}
+use Rattle.src_tree.specs.Prelude.{Test, DeclaredOnce}
+use Rattle.trace_patterns.specs.Prelude.{note_known, note_of_place, claimed_at}
 use Rattle.stretches.proofs.Standing.{standing-first, standing-rest, standing-head, standing-tail}
 use Rattle.stretches.proofs.Passed.{passes-then, passes-to, LieBetween, no_note-before, no_note-behind, note_at-first, note_at-second, note_at-head, note_at-tail}
 use Rattle.block_cache_gen.specs.declared.frames.Mode.TheVariants.{Public}
-use Rattle.block_cache_gen.specs.Homes.{Setting, HasHomes}
-use Rattle.block_cache_gen.specs.Codes.{guard_code}
-use Rattle.block_cache_gen.specs.Notes.{guard_notes}
+use Rattle.block_cache_gen.specs.Prelude.{Setting, HasHomes, guard_code, guard_notes}
 use Rattle.block_cache_gen.proofs.PublicGuards.{guard-lie}
 use Rattle.block_cache_gen.proofs.RangesOfNotes.{base_mask-below, NotesRise, rise-wider, rise-then, guard-rises}
-use Rattle.code_gen.specs.Statements.{opposite, choice_code, head_note}
+use Rattle.code_gen.specs.Prelude.{opposite, choice_code, head_note}
 use Rattle.code_gen.proofs.PassedParts.{head_claim, IsOpenAt, IsPassed, IsNoted, rise-lies, closed, closed_by, closed_other, closed_found, closed_rises, end-open, head-carries, stands-as}
 use Rattle.code_gen.proofs.PassedBranches.{PassesGuards, guard-longer, branch-on, jump-away}
 

@@ -5,20 +5,16 @@ use Rattle.std.specs.Option.{option_map}
 use Rattle.std.proofs.lemmas.Bool.{eqb-false}
 use Rattle.lt_isa.specs.declared.symbols.Note.{Note}
 use Rattle.lt_isa.specs.declared.instructions.Instr.{Instr}
-use Rattle.lt_isa.specs.Object.{Parts}
-use Rattle.src_tree.specs.Typing.{DeclaredOnce}
-use Rattle.trace_patterns.specs.Known.{Known, note_known, FitsClaim}
-use Rattle.trace_patterns.specs.Rules.{note_of_place, claimed_at}
-use Rattle.stretches.specs.Standing.{StandsAt}
-use Rattle.stretches.specs.Passing.{HoldsAt, AsItComes, AsClaimed, Passes, Done, NotesBetween}
+use Rattle.lt_isa.specs.Prelude.{Parts}
+use Rattle.src_tree.specs.Prelude.{DeclaredOnce}
+use Rattle.trace_patterns.specs.Prelude.{Known, note_known, FitsClaim, note_of_place, claimed_at}
+use Rattle.stretches.specs.Prelude.{StandsAt, HoldsAt, AsItComes, AsClaimed, Passes, Done, NotesBetween}
 use Rattle.stretches.proofs.Standing.{standing-first, standing-rest}
 use Rattle.stretches.proofs.Passed.{passes-then, passes-to, LieBetween, no_note-before, no_note-behind, note_at-first, note_at-second, note_at-found, note_at-head, note_at-tail}
-use Rattle.block_cache_gen.specs.Homes.{Setting, HasHomes}
-use Rattle.block_cache_gen.specs.Notes.{base_mask, note_of}
-use Rattle.block_cache_gen.specs.Carries.{Carries}
+use Rattle.block_cache_gen.specs.Prelude.{Setting, HasHomes, base_mask, note_of, Carries}
 use Rattle.block_cache_gen.proofs.NoteClaims.{leaves-base, note-fits, note-carries}
 use Rattle.block_cache_gen.proofs.RangesOfNotes.{base_mask-below, NotesRise, rise-wider, rise-then}
-use Rattle.code_gen.specs.Statements.{head_note, head_unless}
+use Rattle.code_gen.specs.Prelude.{head_note, head_unless}
 
 -- what a note to which public code may jump claims
 abbrev pub head_claim : Setting → Known

@@ -2,44 +2,32 @@
 use Rattle.std.proofs.Common.{◌≡◌, ℕ, zero, suc, ◌+◌, ◌-◌, ◌<◌, ◌≤◌, Bool, true, false, ◌&&◌, pos, List, [], ◌∷◌, ◌++◌, length, length-append, get_or, inl, Option, Some, None, refl, sym, ap, ◌∙◌, subst, arith, append_assoc, length-set}
 use Rattle.std.specs.List.{slice_get}
 use Rattle.std.specs.Option.{option_map}
-use Rattle.gr_word.specs.declared.variables.Label.TheVariants as label
 use Rattle.lt_isa.specs.declared.symbols.Note.{Note}
 use Rattle.lt_isa.specs.declared.instructions.Instr.{Instr}
 use Rattle.lt_isa.specs.declared.instructions.Instr.TheVariants.{Li, Ldb, Stb, Halt}
-use Rattle.lt_isa.specs.Object.{Parts}
-use Rattle.src_tree.specs.Contexts.{context_of}
-use Rattle.src_tree.specs.Limits.{max_weight, LowBlock, block_weight}
-use Rattle.src_tree.specs.Trees.{Block}
-use Rattle.src_tree.specs.Typing.{TypedBlock, DeclaredOnce}
-use Rattle.trace_patterns.specs.Known.{Known, is_secret, bank_known, set_secret, set_bank, start_known, note_known}
-use Rattle.trace_patterns.specs.Rules.{Leaves, shows_block, note_of_place, claimed_at, ruling_of}
-use Rattle.trace_patterns.specs.Accepts.{Accepts, has_secret_in_ram}
-use Rattle.stretches.specs.Standing.{StandsAt}
-use Rattle.stretches.specs.Passing.{AsItComes, Done, HoldsAt, Passes}
+use Rattle.lt_isa.specs.Prelude.{Parts}
+use Rattle.src_tree.specs.Prelude.{context_of, max_weight, LowBlock, block_weight, Block, TypedBlock, DeclaredOnce, secret_label}
+use Rattle.trace_patterns.specs.Prelude.{Known, is_secret, bank_known, set_secret, set_bank, start_known, note_known, Leaves, shows_block, note_of_place, claimed_at, ruling_of, Accepts, has_secret_in_ram}
+use Rattle.stretches.specs.Prelude.{StandsAt, AsItComes, Done, HoldsAt, Passes}
 use Rattle.stretches.proofs.Standing.{standing-first, standing-rest, standing-head, standing-whole}
 use Rattle.stretches.proofs.Passed.{passes-then, passes-to, passes-goes, passes-noted, GoesOn, NoMore, One, goes-then, ruled-at, rules-li, rules-ldb, rules-stb, secret-same, bank-same, bank-other, LieBetween, no_note-before, no_note-behind}
 use Rattle.stretches.proofs.PassedCode.{passes-accepted}
 use Rattle.scratch_alloc.specs.declared.plans.Pin.{Pin}
-use Rattle.block_cache_gen.specs.Homes.{Held, Setting, HasHomes, held_label, home_of, label_by}
-use Rattle.block_cache_gen.specs.HeldCodes.{HasSecretSlot, begin_code, end_code, each_held}
-use Rattle.block_cache_gen.specs.ServedBlocks.{first_blocks}
-use Rattle.block_cache_gen.specs.Carries.{Carries}
+use Rattle.block_cache_gen.specs.Prelude.{Held, Setting, HasHomes, held_label, home_of, label_by, HasSecretSlot, begin_code, end_code, each_held, first_blocks, Carries, BlockHasPublicIndexes}
 use Rattle.block_cache_gen.proofs.Ranged.{homes-ranged, block-ranged}
 use Rattle.block_cache_gen.proofs.NamesOfHomes.{array-used, array-served}
 use Rattle.block_cache_gen.proofs.ServedBlocks.{first-pinned, first-served}
-use Rattle.code_gen.specs.Statements.{Padding, block_code, block_notes, block_ends_noted}
-use Rattle.code_gen.specs.Programs.{load_code, pin_store, each_slot, beginning, ending, program_code, program_notes}
-use Rattle.compiled_objects.specs.Compiles.{at_start}
-use Rattle.block_cache_gen.specs.PublicIndexes.{BlockHasPublicIndexes}
+use Rattle.code_gen.specs.Prelude.{Padding, block_code, block_notes, block_ends_noted, load_code, pin_store, each_slot, beginning, ending, program_code, program_notes}
+use Rattle.compiled_objects.specs.Prelude.{at_start}
 use Rattle.gr_word.specs.declared.variables.Label.{Label}
-use Rattle.src_tree.specs.Labels.{secret_label}
-use Rattle.held_registers.specs.Held.{held_at, label_held}
+use Rattle.held_registers.specs.Prelude.{held_at, label_held}
 use Rattle.held_registers.proofs.Found.{held-high}
 use Rattle.block_cache_gen.proofs.HeldScalars.{held-listed}
 use Rattle.code_gen.proofs.PassedRegisters.{KnowsPins, all_held, got_from, stored_scalars}
 use Rattle.code_gen.proofs.PassedParts.{IsOpenAt, rise-lies, end-open, held-open, stands-as}
 use Rattle.code_gen.proofs.RangedParts.{noted-ranged, passed-ranged}
 use Rattle.code_gen.proofs.PassedStatements.{BeginsGuarded, PassesPadded, Relies, block-noted, block-passed}
+use Rattle.gr_word.specs.declared.variables.Label.TheVariants as label
 
 -- what is known in the loads of a program's beginning is of all registers and slots
 record Loading (k : Known) : Type 0 where

@@ -1,29 +1,26 @@
 -- The check passes the code that gives registers what they hold for the whole run, and the code that stores their scalars.
 use Rattle.std.proofs.Common.{◌≡◌, ◌≢◌, ℕ, zero, suc, ◌+◌, ◌-◌, ◌<◌, ◌≤◌, Bool, true, false, not, ◌&&◌, ◌||◌, ℤ, pos, List, [], ◌∷◌, length, get_or, Option, Some, None, refl, sym, ap, ◌∙◌, subst, arith, length-set}
 use Rattle.std.specs.List.{slice_get}
-use Rattle.gr_word.specs.declared.variables.Label.TheVariants as label
 use Rattle.lt_isa.specs.declared.instructions.Instr.{Instr}
 use Rattle.lt_isa.specs.declared.instructions.Instr.TheVariants.{Li, Alu, Ldw, Stw}
-use Rattle.lt_isa.specs.Object.{Parts, is_ram}
-use Rattle.src_tree.specs.Typing.{DeclaredOnce}
-use Rattle.trace_patterns.specs.Known.{Known, is_secret, bank_known, set_secret}
+use Rattle.lt_isa.specs.Prelude.{Parts, is_ram}
+use Rattle.src_tree.specs.Prelude.{DeclaredOnce, secret_label}
+use Rattle.trace_patterns.specs.Prelude.{Known, is_secret, bank_known, set_secret}
 use Rattle.stretches.proofs.Passed.{GoesOn, NoMore, One, goes-then, rules-li, rules-alu, rules-ldw, rules-stw, secret-same, secret-other}
 use Rattle.scratch_alloc.specs.declared.plans.Pin.{Pin}
-use Rattle.block_cache_gen.specs.Homes.{Held, Home, Setting, HasHomes, held_label, home_of, label_by, pin_at, pin_of}
-use Rattle.block_cache_gen.specs.HeldCodes.{HasSecretSlot, home_numbered, begin_code, end_code, each_held}
-use Rattle.block_cache_gen.specs.Carries.{Carries}
+use Rattle.block_cache_gen.specs.Prelude.{Held, Home, Setting, HasHomes, held_label, home_of, label_by, pin_at, pin_of, HasSecretSlot, home_numbered, begin_code, end_code, each_held, Carries}
 use Rattle.gr_word.specs.declared.operations.Op.TheVariants.{Sub}
 use Rattle.gr_word.specs.declared.variables.Label.{Label}
 use Rattle.gr_word.specs.declared.variables.Shape.TheVariants.{Scalar}
-use Rattle.src_tree.specs.Labels.{secret_label}
-use Rattle.bank_alloc.specs.Apart.{scalar_bank}
+use Rattle.bank_alloc.specs.Prelude.{scalar_bank}
 use Rattle.held_registers.specs.declared.registers.Held.TheVariants.{SecretZero, Number}
-use Rattle.held_registers.specs.declared.registers.Held.TheVariants as thing
-use Rattle.held_registers.specs.Held.{held_at, label_held}
+use Rattle.held_registers.specs.Prelude.{held_at, label_held}
 use Rattle.block_cache_gen.proofs.HeldBeginning.{held-at}
 use Rattle.block_cache_gen.proofs.HeldScalars.{held-inside}
 use Rattle.block_cache_gen.proofs.KeptRegisters.{same-itself, same-set, carries-same}
 use Rattle.code_gen.proofs.ScalarsNumbered.{ScalarNumbered, scalar-numbered}
+use Rattle.gr_word.specs.declared.variables.Label.TheVariants as label
+use Rattle.held_registers.specs.declared.registers.Held.TheVariants as thing
 
 -- each pinned slot is known to have the bank of its block
 abbrev pub KnowsPins : Setting → Known → Type 0

@@ -3,43 +3,32 @@ use Rattle.std.proofs.Common.{◌≡◌, ℕ, ◌+◌, ◌≤◌, Bool, false, p
 use Rattle.std.specs.Prelude.{if◌then◌else◌}
 use Rattle.std.specs.Option.{option_map}
 use Rattle.gr_word.specs.declared.variables.Label.{Label}
-use Rattle.gr_word.specs.declared.variables.Label.TheVariants as label
 use Rattle.lt_isa.specs.declared.symbols.Note.{Note}
 use Rattle.lt_isa.specs.declared.instructions.Instr.{Instr}
 use Rattle.lt_isa.specs.declared.instructions.Instr.TheVariants.{Br}
-use Rattle.lt_isa.specs.Object.{Parts}
-use Rattle.src_tree.specs.Contexts.{Context, context_of}
-use Rattle.src_tree.specs.Labels.{inside, label_of_test}
-use Rattle.src_tree.specs.Limits.{max_weight, Low, LowStatement, LowBlock, parts_weight, statement_weight, block_weight, test_weight}
-use Rattle.src_tree.specs.Trees.{Test, Statement, SetVariable, SetElement, Choice, Loop, Block, Nothing, Then}
-use Rattle.src_tree.specs.Typing.{TypedStatement, TypedBlock, TypedTest, DeclaredOnce}
-use Rattle.trace_patterns.specs.Known.{Known, note_known}
-use Rattle.trace_patterns.specs.Rules.{note_of_place, claimed_at}
-use Rattle.stretches.specs.Passing.{HoldsAt}
+use Rattle.lt_isa.specs.Prelude.{Parts}
+use Rattle.src_tree.specs.Prelude.{Context, context_of, inside, label_of_test, max_weight, Low, LowStatement, LowBlock, parts_weight, statement_weight, block_weight, test_weight, Test, Statement, SetVariable, SetElement, Choice, Loop, Block, Nothing, Then, TypedStatement, TypedBlock, TypedTest, DeclaredOnce}
+use Rattle.trace_patterns.specs.Prelude.{Known, note_known, note_of_place, claimed_at}
+use Rattle.stretches.specs.Prelude.{HoldsAt}
 use Rattle.stretches.proofs.Standing.{standing-first}
 use Rattle.stretches.proofs.Passed.{passes-to, no_note-behind, note_at-first, note_at-found}
 use Rattle.block_cache_gen.specs.declared.frames.Mode.TheVariants.{Public}
-use Rattle.scalar_ranges.specs.Ranges.{Ranges}
-use Rattle.block_cache_gen.specs.Homes.{Setting, HasHomes, ranged}
-use Rattle.block_cache_gen.specs.Codes.{guard_code, set_code}
-use Rattle.block_cache_gen.specs.Notes.{guard_notes, set_notes}
-use Rattle.block_cache_gen.specs.Carries.{Carries}
-use Rattle.block_cache_gen.specs.PublicIndexes.{TestHasPublicIndexes}
-use Rattle.block_cache_gen.specs.PublicCode.{StandsNoted, PassedSet}
+use Rattle.scalar_ranges.specs.Prelude.{Ranges}
+use Rattle.block_cache_gen.specs.Prelude.{Setting, HasHomes, ranged, guard_code, set_code, guard_notes, set_notes, Carries, TestHasPublicIndexes, StandsNoted, PassedSet, StatementHasPublicIndexes, BlockHasPublicIndexes}
 use Rattle.block_cache_gen.proofs.Ranged.{homes-ranged, test-ranged, block-ranged}
 use Rattle.block_cache_gen.proofs.SomeCode.{set_code-some}
 use Rattle.block_cache_gen.proofs.PublicGuards.{guard-lie}
 use Rattle.block_cache_gen.proofs.PublicAssignments.{set_variable-passes, set_element-passes}
 use Rattle.block_cache_gen.proofs.RangesOfNotes.{rise-wider, rise-then, guard-rises, set-rises}
-use Rattle.branch_padding.specs.AfterStatements.{after, behind_loop, within_loop}
-use Rattle.code_gen.specs.Statements.{Padding, opposite, places_over, second_code, choice_code, choice_by, choice_notes, notes_by, is_public, ends_noted, block_ends_noted, head_note, statement_code, block_code, statement_notes, block_notes}
-use Rattle.block_cache_gen.specs.PublicIndexes.{StatementHasPublicIndexes, BlockHasPublicIndexes}
+use Rattle.branch_padding.specs.Prelude.{after, behind_loop, within_loop}
+use Rattle.code_gen.specs.Prelude.{Padding, opposite, places_over, second_code, choice_code, choice_by, choice_notes, notes_by, is_public, ends_noted, block_ends_noted, head_note, statement_code, block_code, statement_notes, block_notes}
 use Rattle.code_gen.proofs.PassedParts.{IsPassed, IsNoted, rise-lies, held-open, none-noted, none-passed, both-noted, both-passed}
 use Rattle.code_gen.proofs.RangedParts.{noted-ranged, passed-ranged}
 use Rattle.code_gen.proofs.PassedBranches.{PassesGuards, guards-pass, guard-longer, single-noted, single-passed}
 use Rattle.code_gen.proofs.PassedChoices.{double-noted, double-passed}
 use Rattle.code_gen.proofs.PassedLoops.{loop-noted, loop-passed}
 use Rattle.code_gen.proofs.EmittedChoices.{longer}
+use Rattle.gr_word.specs.declared.variables.Label.TheVariants as label
 
 -- what is made of a branch on a secret begins with its guard
 abbrev pub BeginsGuarded : Padding → Type 0

@@ -1,35 +1,22 @@
 -- The public code of guards and of assignments does what they mean, where an object has the homes that it is made for.
 use Rattle.std.proofs.Common.{◌≡◌, ℕ, ◌+◌, List, length, refl, sym, ap, ◌∙◌, subst, arith}
-use Rattle.gr_word.specs.Words.{compared}
+use Rattle.gr_word.specs.Prelude.{compared}
 use Rattle.gr_word.specs.declared.variables.Label.TheVariants.{Public, Secret}
 use Rattle.lt_isa.specs.declared.instructions.Instr.{Instr}
-use Rattle.lt_isa.specs.Object.{Parts}
-use Rattle.lt_isa.specs.Ranges.{IsInRange}
-use Rattle.lt_isa.specs.Machine.{State, Observed, register}
-use Rattle.lt_isa.specs.Shape.{IsShaped}
-use Rattle.stretches.specs.Standing.{StandsAt, greatest_costs}
-use Rattle.stretches.specs.Coming.{Comes, RunsThrough}
+use Rattle.lt_isa.specs.Prelude.{Parts, IsInRange, State, Observed, register, IsShaped}
+use Rattle.stretches.specs.Prelude.{StandsAt, greatest_costs, Comes, RunsThrough}
 use Rattle.stretches.proofs.Coming.{comes-weaker}
-use Rattle.src_tree.specs.Trees.{Tree, Test, SetVariable, SetElement, Choice, Block}
-use Rattle.src_tree.specs.Contexts.{context_of}
-use Rattle.src_tree.specs.Labels.{label_of_test}
-use Rattle.src_tree.specs.Limits.{Low, LowStatement}
-use Rattle.src_tree.specs.Typing.{TypedTest, TypedStatement}
-use Rattle.src_tree.specs.Meaning.{variable_number, evaluated, guard_holds, scalar_set, element_set, run_of}
-use Rattle.block_cache_gen.specs.declared.frames.Mode.TheVariants as mode
-use Rattle.scalar_ranges.specs.Ranges.{AreOfPublic, Ranges}
-use Rattle.block_cache_gen.specs.Homes.{Setting, HasHomes, ranged}
-use Rattle.block_cache_gen.specs.Codes.{guard_code, set_code}
-use Rattle.block_cache_gen.specs.Accesses.{test_accesses, seen_of_all}
-use Rattle.block_cache_gen.specs.Assignments.{Assigns, seen_of_set}
+use Rattle.src_tree.specs.Prelude.{Tree, Test, SetVariable, SetElement, Choice, Block, context_of, label_of_test, Low, LowStatement, TypedTest, TypedStatement, variable_number, evaluated, guard_holds, scalar_set, element_set, run_of}
+use Rattle.scalar_ranges.specs.Prelude.{AreOfPublic, Ranges}
+use Rattle.block_cache_gen.specs.Prelude.{Setting, HasHomes, ranged, guard_code, set_code, test_accesses, seen_of_all, Assigns, seen_of_set}
 use Rattle.block_cache_gen.proofs.Ranged.{fits-ranged, homes-ranged, stands-ranged}
 use Rattle.block_cache_gen.proofs.GuardRuns.{runs-guard}
 use Rattle.block_cache_gen.proofs.AssignmentRuns.{runs-set_variable, runs-set_element}
-use Rattle.code_gen.specs.Follows.{Follows}
-use Rattle.code_gen.specs.Statements.{Padding}
+use Rattle.code_gen.specs.Prelude.{Follows, Padding}
 use Rattle.code_gen.proofs.Following.{Tested, Tests, Changes}
 use Rattle.code_gen.proofs.Followed.{PartsFollow}
 use Rattle.code_gen.proofs.RangedParts.{assigns-ranged}
+use Rattle.block_cache_gen.specs.declared.frames.Mode.TheVariants as mode
 
 -- a run from the place of some code, seen from the code's place
 through-at : {o : Parts} {s : State} {shown : List Observed} {P : State → Type 0} (code : List Instr) (place : ℕ)

@@ -2,12 +2,10 @@
 use Rattle.std.proofs.Common.{ℕ, ◌+◌, Bool, List, [], ◌∷◌, length}
 use Rattle.lt_isa.specs.declared.symbols.Note.{Note}
 use Rattle.lt_isa.specs.declared.instructions.Instr.{Instr}
-use Rattle.lt_isa.specs.Object.{Parts}
-use Rattle.lt_isa.specs.Machine.{State}
-use Rattle.src_tree.specs.Meaning.{Store}
-use Rattle.scalar_ranges.specs.Ranges.{Ranges}
-use Rattle.block_cache_gen.specs.Homes.{Setting, ranged}
-use Rattle.block_cache_gen.specs.Assignments.{Assigns}
+use Rattle.lt_isa.specs.Prelude.{Parts, State}
+use Rattle.src_tree.specs.Prelude.{Store}
+use Rattle.scalar_ranges.specs.Prelude.{Ranges}
+use Rattle.block_cache_gen.specs.Prelude.{Setting, ranged, Assigns}
 use Rattle.block_cache_gen.proofs.Ranged.{carries-ranged, fits-ranged, stands-ranged}
 use Rattle.block_cache_gen.proofs.RangesOfNotes.{NotesRise}
 use Rattle.code_gen.proofs.PassedParts.{IsNoted, IsPassed}

@@ -3,30 +3,26 @@ use Rattle.std.proofs.Common.{◌≡◌, ℕ, ◌+◌, ◌^◌, ◌≤◌, List,
 use Rattle.std.specs.Prelude.{All}
 use Rattle.std.proofs.lemmas.List.{length-map}
 use Rattle.std.proofs.lemmas.List.Sorted.{length_permutation}
-use Rattle.gr_base.specs.Lists.{Within, EachAfter}
+use Rattle.gr_base.specs.Prelude.{Within, EachAfter}
 use Rattle.lt_isa.specs.declared.instructions.Instr.{Instr}
 use Rattle.lt_isa.specs.declared.profiles.BankSpec.{BankSpec}
 use Rattle.lt_isa.specs.declared.symbols.Note.{Note}
-use Rattle.lt_isa.specs.Limits.{most_latency, most_notes, most_instructions}
-use Rattle.lt_isa.specs.Object.{Parts}
-use Rattle.lt_isa.specs.Ranges.{ProfileFits, SymbolFits, InstrFits, NoteFits, next_place, IsInRange}
+use Rattle.lt_isa.specs.Prelude.{most_latency, most_notes, most_instructions, Parts, ProfileFits, SymbolFits, InstrFits, NoteFits, next_place, IsInRange}
 use Rattle.src_tree.specs.declared.trees.Decl.{Decl}
-use Rattle.src_tree.specs.Trees.{source_of}
+use Rattle.src_tree.specs.Prelude.{source_of}
 use Rattle.bank_alloc.specs.declared.places.Place.{Place}
 use Rattle.bank_alloc.proofs.BankSizes.{banks_fit}
-use Rattle.bank_alloc.specs.Layout.{IsLaidOut, placed_symbols}
-use Rattle.gr_word.specs.declared.variables.Shape.TheVariants as shape
+use Rattle.bank_alloc.specs.Prelude.{IsLaidOut, placed_symbols}
 use Rattle.held_registers.specs.declared.registers.Held.TheVariants.{Number, Scalar}
 use Rattle.block_cache_gen.specs.declared.frames.Frame.{Frame}
-use Rattle.block_cache_gen.specs.Settings.{setting_of, IsFrame}
-use Rattle.block_cache_gen.specs.ProgramWords.{BlockHasWords}
+use Rattle.block_cache_gen.specs.Prelude.{setting_of, IsFrame, BlockHasWords}
 use Rattle.block_cache_gen.proofs.HomesOfFrames.{homes_fit, first_fits, frame_banks}
 use Rattle.block_cache_gen.proofs.HeldBeginning.{held-at}
 use Rattle.block_cache_gen.proofs.RangesOfCode.{HomeFits, HomesFit}
-use Rattle.code_gen.specs.Emitted.{padding_of}
-use Rattle.code_gen.specs.Programs.{program_code, program_notes}
+use Rattle.code_gen.specs.Prelude.{padding_of, program_code, program_notes}
 use Rattle.code_gen.proofs.ScalarsNumbered.{scalar-numbered}
 use Rattle.code_gen.proofs.RangesOfPrograms.{HeldFit, PinsInEight, program-size, program-fits, notes-fit, notes-few, notes-inside}
+use Rattle.gr_word.specs.declared.variables.Shape.TheVariants as shape
 
 -- as many symbols as variables
 symbols_short : (ds : List Decl) (places : List Place) → length (placed_symbols ds places) ≤ length ds

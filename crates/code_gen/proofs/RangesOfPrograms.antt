@@ -2,36 +2,27 @@
 use Rattle.std.proofs.Common.{◌≡◌, ℕ, suc, ◌+◌, ◌-◌, ◌*◌, ◌<◌, ◌≤◌, ℤ, pos, List, [], ◌∷◌, ◌++◌, length, length-append, get_or, Option, Some, None, refl, ap, ◌∙◌, arith}
 use Rattle.std.specs.Prelude.{All}
 use Rattle.std.specs.List.{slice_get}
-use Rattle.gr_base.specs.Lists.{Within, EachAfter}
+use Rattle.gr_base.specs.Prelude.{Within, EachAfter}
 use Rattle.gr_word.specs.declared.operations.Op.TheVariants.{Sub}
-use Rattle.gr_word.specs.declared.variables.Label.TheVariants as label
 use Rattle.lt_isa.specs.declared.symbols.Note.{Note}
 use Rattle.lt_isa.specs.declared.instructions.Instr.{Instr}
 use Rattle.lt_isa.specs.declared.instructions.Instr.TheVariants.{Li, Alu, Ldb, Ldw, Stw, Stb, Halt}
-use Rattle.lt_isa.specs.Limits.{most_instructions, most_notes}
-use Rattle.lt_isa.specs.Ranges.{InstrFits, NoteFits, next_place}
-use Rattle.src_tree.specs.Contexts.{context_of}
-use Rattle.src_tree.specs.Limits.{max_weight, LowBlock, block_weight}
-use Rattle.src_tree.specs.Trees.{Block}
-use Rattle.src_tree.specs.Typing.{TypedBlock}
+use Rattle.lt_isa.specs.Prelude.{most_instructions, most_notes, InstrFits, NoteFits, next_place}
+use Rattle.src_tree.specs.Prelude.{context_of, max_weight, LowBlock, block_weight, Block, TypedBlock}
 use Rattle.scratch_alloc.specs.declared.plans.Pin.{Pin}
-use Rattle.gr_word.specs.Words.{IsWord}
+use Rattle.gr_word.specs.Prelude.{IsWord}
 use Rattle.held_registers.specs.declared.registers.Held.TheVariants.{SecretZero, Number, Scalar}
-use Rattle.block_cache_gen.specs.HeldCodes.{home_numbered, begin_code, end_code, each_held, held_beginning, held_ending}
-use Rattle.block_cache_gen.specs.Homes.{Held, Setting, pin_at}
-use Rattle.block_cache_gen.specs.ServedBlocks.{first_blocks}
-use Rattle.block_cache_gen.specs.ProgramWords.{BlockHasWords}
+use Rattle.block_cache_gen.specs.Prelude.{home_numbered, begin_code, end_code, each_held, held_beginning, held_ending, Held, Setting, pin_at, first_blocks, BlockHasWords}
 use Rattle.block_cache_gen.proofs.Ranged.{homes_fit-ranged}
 use Rattle.block_cache_gen.proofs.RangesOfCode.{HomeFits, HomesFit, CodeFits, NoCode, Before, code-all, code-both, small-word}
 use Rattle.block_cache_gen.proofs.RangesOfNotes.{NotesRise, PinsLow, rise-fits}
-use Rattle.code_gen.specs.Emitted.{padding_of}
-use Rattle.code_gen.specs.Statements.{block_code}
-use Rattle.code_gen.specs.Programs.{load_code, pin_store, each_slot, beginning, ending, program_code, program_notes}
-use Rattle.compiled_objects.specs.Compiles.{at_start}
+use Rattle.code_gen.specs.Prelude.{padding_of, block_code, load_code, pin_store, each_slot, beginning, ending, program_code, program_notes}
+use Rattle.compiled_objects.specs.Prelude.{at_start}
 use Rattle.code_gen.proofs.PassedStatements.{block-noted}
 use Rattle.code_gen.proofs.RangedParts.{rise-ranged}
 use Rattle.code_gen.proofs.AcceptedPrograms.{begins-guarded}
 use Rattle.code_gen.proofs.RangesOfStatements.{row-public, row-count, rows-fits}
+use Rattle.gr_word.specs.declared.variables.Label.TheVariants as label
 
 -- the code of each slot is as long as the slots' codes together
 loads_short : (slot : ℕ) (blocks : List (Option Pin)) → length (each_slot load_code slot blocks) ≤ 2 * length blocks

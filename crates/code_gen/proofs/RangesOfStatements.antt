@@ -5,29 +5,21 @@ use Rattle.std.specs.Prelude.{FitsSigned}
 use Rattle.std.proofs.lemmas.Int.{fits_signed_from_abs}
 use Rattle.gr_word.specs.declared.operations.Cmp.{Cmp}
 use Rattle.gr_word.specs.declared.variables.Label.{Label}
-use Rattle.gr_word.specs.declared.variables.Label.TheVariants as label
 use Rattle.lt_isa.specs.declared.symbols.Note.{Note}
 use Rattle.lt_isa.specs.declared.instructions.Instr.{Instr}
 use Rattle.lt_isa.specs.declared.instructions.Instr.TheVariants.{Jmp, Br}
-use Rattle.src_tree.specs.Contexts.{Context, context_of}
-use Rattle.src_tree.specs.Labels.{label_of_test}
-use Rattle.src_tree.specs.Limits.{max_weight, LowStatement, LowBlock, parts_weight, statement_weight, block_weight, test_weight}
-use Rattle.src_tree.specs.Trees.{Test, Statement, SetVariable, SetElement, Choice, Loop, Block, Nothing, Then}
-use Rattle.src_tree.specs.Typing.{TypedStatement, TypedBlock}
-use Rattle.block_cache_gen.specs.declared.frames.Mode.TheVariants as modes
-use Rattle.block_cache_gen.specs.Homes.{Setting}
-use Rattle.block_cache_gen.specs.Codes.{guard_code}
-use Rattle.block_cache_gen.specs.Notes.{guard_notes}
-use Rattle.block_cache_gen.specs.ProgramWords.{StatementHasWords, BlockHasWords}
+use Rattle.src_tree.specs.Prelude.{Context, context_of, label_of_test, max_weight, LowStatement, LowBlock, parts_weight, statement_weight, block_weight, test_weight, Test, Statement, SetVariable, SetElement, Choice, Loop, Block, Nothing, Then, TypedStatement, TypedBlock}
+use Rattle.block_cache_gen.specs.Prelude.{Setting, guard_code, guard_notes, StatementHasWords, BlockHasWords}
 use Rattle.block_cache_gen.proofs.Ranged.{homes_fit-ranged}
 use Rattle.block_cache_gen.proofs.Sizes.{guard_code_short, set_code_short}
 use Rattle.block_cache_gen.proofs.RangesOfCode.{HomesFit, CodeFits, NoCode, Before, code-both, guard-fits, set_variable-fits, set_element-fits}
 use Rattle.block_cache_gen.proofs.RangesOfNotes.{guard-count, set_variable-count, set_element-count}
 use Rattle.branch_padding.proofs.Lengths.{public_choice-short}
 use Rattle.branch_padding.proofs.PaddedRanges.{public_choice-fits}
-use Rattle.branch_padding.specs.AfterStatements.{after, behind_loop, within_loop}
-use Rattle.code_gen.specs.Emitted.{padding_of}
-use Rattle.code_gen.specs.Statements.{opposite, second_code, places_over, choice_code, choice_by, loop_code, head_note, head_unless, choice_notes, guard_note, notes_by, statement_code, block_code, statement_notes, block_notes, block_ends_noted}
+use Rattle.branch_padding.specs.Prelude.{after, behind_loop, within_loop}
+use Rattle.code_gen.specs.Prelude.{padding_of, opposite, second_code, places_over, choice_code, choice_by, loop_code, head_note, head_unless, choice_notes, guard_note, notes_by, statement_code, block_code, statement_notes, block_notes, block_ends_noted}
+use Rattle.gr_word.specs.declared.variables.Label.TheVariants as label
+use Rattle.block_cache_gen.specs.declared.frames.Mode.TheVariants as modes
 
 -- how long a choice and a loop are
 second_short : (ys : List Instr) → length (second_code ys) ≤ 1 + length ys

@@ -6,14 +6,11 @@ use Rattle.std.proofs.lemmas.Option.{slice_get_within, get_or_from_slice_get}
 use Rattle.gr_word.specs.declared.variables.Label.{Label}
 use Rattle.gr_word.specs.declared.variables.Shape.TheVariants.{Scalar}
 use Rattle.src_tree.specs.declared.trees.Decl.{Decl}
-use Rattle.src_tree.specs.Contexts.{context_of, shape_of, label_and_shape}
-use Rattle.src_tree.specs.Meaning.{variable_number}
-use Rattle.src_tree.specs.Typing.{DeclaredOnce}
+use Rattle.src_tree.specs.Prelude.{context_of, shape_of, label_and_shape, variable_number, DeclaredOnce}
 use Rattle.src_tree.proofs.VariableNumbers.{number-of_declared, kind-at_number}
+use Rattle.held_registers.specs.Prelude.{held_at, label_held, IsSoundHeld}
+use Rattle.block_cache_gen.specs.Prelude.{Setting, home_of, no_home, home_numbered}
 use Rattle.held_registers.specs.declared.registers.Held.TheVariants as thing
-use Rattle.held_registers.specs.Held.{held_at, label_held, IsSoundHeld}
-use Rattle.block_cache_gen.specs.Homes.{Setting, home_of, no_home}
-use Rattle.block_cache_gen.specs.HeldCodes.{home_numbered}
 
 pub record ScalarNumbered (f : Setting) (n : ℕ) : Type 0 where
   pub name : List ℕ

@@ -1,26 +1,19 @@
 -- The code of branches on secrets follows them, so that an object with the code of a program implements it.
 use Rattle.std.proofs.Common.{◌≡◌, ℕ, ◌+◌, length, refl, arith}
-use Rattle.lt_isa.specs.Object.{Parts}
-use Rattle.lt_isa.specs.Ranges.{IsInRange}
-use Rattle.stretches.specs.Standing.{greatest_costs}
+use Rattle.lt_isa.specs.Prelude.{Parts, IsInRange}
+use Rattle.stretches.specs.Prelude.{greatest_costs}
 use Rattle.stretches.proofs.Coming.{comes-weaker}
-use Rattle.src_tree.specs.Trees.{Source, Choice}
-use Rattle.src_tree.specs.Limits.{IsWithinLimits}
-use Rattle.src_tree.specs.Meaning.{Store, run_of}
-use Rattle.src_tree.specs.Typing.{IsTyped}
-use Rattle.bank_alloc.specs.Layout.{IsLaidOut}
-use Rattle.scratch_alloc.specs.Plans.{Plan, IsSoundPlan}
-use Rattle.block_cache_gen.specs.HeldCodes.{HasSecretSlot}
-use Rattle.block_cache_gen.specs.Assignments.{Assigns}
-use Rattle.block_cache_gen.specs.Homes.{Setting, HasHomes, ranged}
+use Rattle.src_tree.specs.Prelude.{Source, Choice, IsWithinLimits, Store, run_of, IsTyped}
+use Rattle.bank_alloc.specs.Prelude.{IsLaidOut}
+use Rattle.scratch_alloc.specs.Prelude.{Plan, IsSoundPlan}
+use Rattle.block_cache_gen.specs.Prelude.{HasSecretSlot, Assigns, Setting, HasHomes, ranged}
 use Rattle.block_cache_gen.proofs.Ranged.{fits-ranged, homes-ranged, stands-ranged}
 use Rattle.block_cache_gen.proofs.Settled.{IsSettingOf, has-homes}
-use Rattle.branch_padding.specs.Effects.{effect_of}
+use Rattle.branch_padding.specs.Prelude.{effect_of}
 use Rattle.branch_padding.proofs.EffectsMean.{secret_choice-means}
 use Rattle.branch_padding.proofs.EffectRuns.{choice-changes}
-use Rattle.code_gen.specs.Emitted.{padding_of}
-use Rattle.compiled_objects.specs.Implements.{Implements}
-use Rattle.code_gen.specs.Programs.{program_code}
+use Rattle.code_gen.specs.Prelude.{padding_of, program_code}
+use Rattle.compiled_objects.specs.Prelude.{Implements}
 use Rattle.code_gen.proofs.RangedParts.{assigns-ranged}
 use Rattle.code_gen.proofs.Following.{Changes, follows-change}
 use Rattle.code_gen.proofs.Compiled.{SecretsFollow, laid-padded-implements}

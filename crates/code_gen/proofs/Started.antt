@@ -4,26 +4,21 @@ use Rattle.std.specs.Prelude.{slice_index_or}
 use Rattle.std.proofs.lemmas.Bool.{cases_eq}
 use Rattle.std.proofs.lemmas.Option.{slice_get_within}
 use Rattle.std.proofs.lemmas.Nat.{div-mul-add, mod-mul-add}
-use Rattle.gr_base.specs.Lists.{Within}
+use Rattle.gr_base.specs.Prelude.{Within}
 use Rattle.gr_word.specs.declared.variables.Label.{Label}
 use Rattle.gr_word.specs.declared.variables.Shape.{Shape}
 use Rattle.gr_word.specs.declared.variables.Shape.TheVariants.{Array}
-use Rattle.lt_isa.specs.Object.{Parts, block_words}
-use Rattle.lt_isa.specs.Machine.{State, Unbound, Bound, slot, block_at, word_in, slot_words}
-use Rattle.lt_isa.specs.Outputs.{bank_word_numbered}
-use Rattle.src_tree.specs.Contexts.{context_of}
-use Rattle.src_tree.specs.Meaning.{Store, variable_number, words_of_number}
+use Rattle.lt_isa.specs.Prelude.{Parts, block_words, State, Unbound, Bound, slot, block_at, word_in, slot_words, bank_word_numbered}
+use Rattle.src_tree.specs.Prelude.{context_of, Store, variable_number, words_of_number}
 use Rattle.scratch_alloc.specs.declared.plans.Pin.{Pin}
-use Rattle.held_registers.specs.Held.{held_at}
-use Rattle.block_cache_gen.specs.Homes.{Held, Home, Setting, HasHomes, Serves, PlainSlot, EncryptedSlot, ObliviousSlot, home_of, slot_of_word, pin_at, words_a_block, start_of_home}
-use Rattle.block_cache_gen.specs.ServedBlocks.{first_blocks}
-use Rattle.block_cache_gen.specs.StandsFor.{StandsFor}
+use Rattle.held_registers.specs.Prelude.{held_at}
+use Rattle.block_cache_gen.specs.Prelude.{Held, Home, Setting, HasHomes, Serves, PlainSlot, EncryptedSlot, ObliviousSlot, home_of, slot_of_word, pin_at, words_a_block, start_of_home, first_blocks, StandsFor}
 use Rattle.block_cache_gen.proofs.HeldBeginning.{unheld}
 use Rattle.block_cache_gen.proofs.HeldScalars.{held-listed}
 use Rattle.block_cache_gen.proofs.HomeFacts.{block_words-is}
 use Rattle.block_cache_gen.proofs.NamesOfHomes.{array-used, array-served}
 use Rattle.block_cache_gen.proofs.ServedBlocks.{first-pinned, first-served}
-use Rattle.scratch_alloc.specs.Plans.{pin_to}
+use Rattle.scratch_alloc.specs.Prelude.{pin_to}
 use Rattle.block_cache_gen.proofs.WordSlots.{word-pinned}
 use Rattle.block_cache_gen.proofs.Stands.{bound-block, bound-words}
 use Rattle.code_gen.proofs.Loads.{LoadedTo, bound_by, named, named-is}

@@ -4,32 +4,20 @@ use Rattle.std.specs.Prelude.{cond}
 use Rattle.std.proofs.lemmas.List.Sums.{sum_by-append}
 use Rattle.gr_word.specs.declared.operations.Cmp.{Cmp}
 use Rattle.gr_word.specs.declared.variables.Label.{Label}
-use Rattle.gr_word.specs.declared.variables.Label.TheVariants as label
 use Rattle.lt_isa.specs.declared.instructions.Instr.{Instr}
 use Rattle.lt_isa.specs.declared.instructions.Instr.TheVariants.{Jmp, Br, Halt}
-use Rattle.src_tree.specs.Contexts.{context_of}
-use Rattle.src_tree.specs.Labels.{label_of_test}
-use Rattle.src_tree.specs.Trees.{Test, Statement, SetVariable, SetElement, Choice, Loop, Block, Nothing, Then}
-use Rattle.src_tree.specs.Typing.{TypedStatement, TypedBlock}
+use Rattle.src_tree.specs.Prelude.{context_of, label_of_test, Test, Statement, SetVariable, SetElement, Choice, Loop, Block, Nothing, Then, TypedStatement, TypedBlock}
 use Rattle.block_cache_gen.specs.declared.frames.Mode.TheVariants.{Public}
 use Rattle.scratch_alloc.specs.declared.plans.Pin.{Pin}
 use Rattle.held_registers.specs.declared.registers.Held.TheVariants.{SecretZero, Number, Scalar}
-use Rattle.block_cache_gen.specs.Homes.{Held, Setting}
-use Rattle.block_cache_gen.specs.HeldCodes.{begin_code, end_code, each_held, held_beginning, held_ending}
-use Rattle.block_cache_gen.specs.Codes.{guard_code}
-use Rattle.block_cache_gen.specs.ServedBlocks.{first_blocks}
-use Rattle.block_cache_gen.specs.Alike.{pair_count}
-use Rattle.block_cache_gen.specs.StoredWords.{stored_words}
+use Rattle.block_cache_gen.specs.Prelude.{Held, Setting, begin_code, end_code, each_held, held_beginning, held_ending, guard_code, first_blocks, pair_count, stored_words}
 use Rattle.block_cache_gen.proofs.SecretCodes.{stored-append, guard-stores, variable-stores, element-stores}
 use Rattle.block_cache_gen.proofs.SingleHomes.{ObliviousAreSingle}
-use Rattle.branch_padding.specs.AfterStatements.{after, behind_loop, within_loop}
-use Rattle.branch_padding.specs.Cycles.{slack_of}
-use Rattle.branch_padding.specs.Stores.{added_up, choice_stores, stores_of, stores_of_each}
+use Rattle.branch_padding.specs.Prelude.{after, behind_loop, within_loop, slack_of, added_up, choice_stores, stores_of, stores_of_each}
 use Rattle.branch_padding.proofs.StoredRows.{added-first, public_choice-stores}
-use Rattle.code_gen.specs.Statements.{opposite, second_code, places_over, choice_code, loop_code, choice_by, statement_code, block_code}
-use Rattle.code_gen.specs.Programs.{load_code, pin_store, each_slot, beginning, ending, program_code}
-use Rattle.compiled_objects.specs.Compiles.{at_start, is_some_scalar, scalars_among}
-use Rattle.code_gen.specs.Emitted.{padding_of}
+use Rattle.code_gen.specs.Prelude.{opposite, second_code, places_over, choice_code, loop_code, choice_by, statement_code, block_code, load_code, pin_store, each_slot, beginning, ending, program_code, padding_of}
+use Rattle.compiled_objects.specs.Prelude.{at_start, is_some_scalar, scalars_among}
+use Rattle.gr_word.specs.declared.variables.Label.TheVariants as label
 
 module _ (once : Bool) where
   -- a choice has the stores of its blocks, and a loop those of its body

@@ -8,29 +8,17 @@ use Rattle.std.proofs.lemmas.Option.{none-some}
 use Rattle.gr_word.specs.declared.operations.Cmp.{Cmp}
 use Rattle.lt_isa.specs.declared.instructions.Instr.{Instr}
 use Rattle.lt_isa.specs.declared.instructions.Instr.TheVariants.{Jmp, Br}
-use Rattle.lt_isa.specs.Object.{Parts}
-use Rattle.lt_isa.specs.Ranges.{IsInRange}
-use Rattle.lt_isa.specs.Machine.{State, Observed}
-use Rattle.lt_isa.specs.Costs.{greatest_cost}
-use Rattle.lt_isa.specs.Step.{target_of}
-use Rattle.lt_isa.specs.Shape.{IsShaped}
-use Rattle.lt_isa.specs.Trace.{Here}
+use Rattle.lt_isa.specs.Prelude.{Parts, IsInRange, State, Observed, greatest_cost, target_of, IsShaped, Here}
 use Rattle.lt_isa.proofs.Stretches.{reaches-append, reaches-cycle}
-use Rattle.stretches.specs.Standing.{StandsAt, greatest_costs}
-use Rattle.stretches.specs.Coming.{Comes}
+use Rattle.stretches.specs.Prelude.{StandsAt, greatest_costs, Comes}
 use Rattle.stretches.proofs.Standing.{standing-first, standing-rest, standing-head, standing-tail, greatest_costs-append}
 use Rattle.stretches.proofs.Coming.{comes-on, comes-weaker, comes-jmp, comes-br_taken, comes-br_on}
-use Rattle.src_tree.specs.Meaning.{Store, Left, Execution, guard_holds, loop, run_of_block}
-use Rattle.src_tree.specs.Trees.{Test, Block}
+use Rattle.src_tree.specs.Prelude.{Store, Left, Execution, guard_holds, loop, run_of_block, Test, Block}
 use Rattle.src_tree.proofs.Loops.{TurnsFall, left, block_falls, loop_ends, loop_spent, loop_again}
-use Rattle.scalar_ranges.specs.Comes.{Again, AtOnce, Enters, Returns}
-use Rattle.scalar_ranges.specs.Known.{forgotten_block, inside}
-use Rattle.scalar_ranges.specs.Ranges.{AreWithin, Ranges}
+use Rattle.scalar_ranges.specs.Prelude.{Again, AtOnce, Enters, Returns, forgotten_block, inside, AreWithin, Ranges}
 use Rattle.scalar_ranges.proofs.Counting.{inside-within, returned-forgotten}
-use Rattle.block_cache_gen.specs.Homes.{Setting}
-use Rattle.block_cache_gen.specs.StandsFor.{FitsHomes, StandsFor}
-use Rattle.code_gen.specs.Follows.{Finishes, Lasts, Follows}
-use Rattle.code_gen.specs.Statements.{loop_code}
+use Rattle.block_cache_gen.specs.Prelude.{Setting, FitsHomes, StandsFor}
+use Rattle.code_gen.specs.Prelude.{Finishes, Lasts, Follows, loop_code}
 use Rattle.code_gen.proofs.Following.{Tested, Tests, stands-moved, costs-turn, finishes-weaker, finishes-stretch, finishes-behind, lasts-append, lasts-behind}
 
 -- at least one cycle was taken to a state that represents a store

@@ -3,21 +3,16 @@ use Rattle.std.proofs.Common.{◌≡◌, false, ℕ, suc, ◌<◌, ℤ, List, []
 use Rattle.std.proofs.lemmas.List.{get_or-map, length-map}
 use Rattle.gr_word.specs.declared.variables.Want.{Want}
 use Rattle.lt_isa.specs.declared.symbols.Symbol.{Symbol}
-use Rattle.lt_isa.specs.Object.{Parts}
-use Rattle.lt_isa.specs.Start.{want_of, wants_of}
+use Rattle.lt_isa.specs.Prelude.{Parts, want_of, wants_of}
 use Rattle.src_tree.specs.declared.trees.Decl.{Decl}
-use Rattle.src_tree.specs.Contexts.{shape_of}
-use Rattle.src_tree.specs.Limits.{IsWithinLimits}
-use Rattle.src_tree.specs.Meaning.{Store, variable_number, words_of_number}
-use Rattle.src_tree.specs.Trees.{Source}
-use Rattle.src_tree.specs.Typing.{DeclaredOnce}
+use Rattle.src_tree.specs.Prelude.{shape_of, IsWithinLimits, Store, variable_number, words_of_number, Source, DeclaredOnce}
 use Rattle.src_tree.proofs.VariableNumbers.{number-of_declared}
-use Rattle.flow_types.specs.Wants.{declared_want, declared_wants}
+use Rattle.flow_types.specs.Prelude.{declared_want, declared_wants}
 use Rattle.bank_alloc.specs.declared.places.Place.{Place}
-use Rattle.bank_alloc.specs.Layout.{IsLaidOut, placed_symbol}
-use Rattle.scratch_alloc.specs.Plans.{Plan, IsSoundPlan, no_decl, no_place}
-use Rattle.block_cache_gen.specs.Settings.{setting_for}
-use Rattle.compiled_objects.specs.Implements.{by_name}
+use Rattle.bank_alloc.specs.Prelude.{IsLaidOut, placed_symbol}
+use Rattle.scratch_alloc.specs.Prelude.{Plan, IsSoundPlan, no_decl, no_place}
+use Rattle.block_cache_gen.specs.Prelude.{setting_for}
+use Rattle.compiled_objects.specs.Prelude.{by_name}
 use Rattle.code_gen.proofs.ByName.{IsVariable, setting-of, symbols-variables}
 
 -- what is made of each symbol's want

@@ -7,19 +7,15 @@ use Rattle.std.proofs.lemmas.List.{ext_get_or, get_or-map, length-map}
 use Rattle.std.proofs.lemmas.List.Sorted.{IsPermutation-map}
 use Rattle.gr_base.proofs.Permuted.{EachTwo}
 use Rattle.gr_word.specs.declared.variables.Want.{Want}
-use Rattle.lt_isa.specs.Object.{Parts}
-use Rattle.lt_isa.specs.Start.{want_of, wants_of}
+use Rattle.lt_isa.specs.Prelude.{Parts, want_of, wants_of}
 use Rattle.src_tree.specs.declared.trees.Decl.{Decl}
-use Rattle.src_tree.specs.Limits.{IsWithinLimits}
-use Rattle.src_tree.specs.Meaning.{Store, variable_number, words_of_number}
-use Rattle.src_tree.specs.Trees.{Source}
-use Rattle.src_tree.specs.Typing.{DeclaredOnce}
+use Rattle.src_tree.specs.Prelude.{IsWithinLimits, Store, variable_number, words_of_number, Source, DeclaredOnce}
 use Rattle.src_tree.proofs.NamesDiffer.{names_differ}
 use Rattle.src_tree.proofs.VariableNumbers.{number-of_declared}
-use Rattle.flow_types.specs.Wants.{declared_want, declared_wants}
+use Rattle.flow_types.specs.Prelude.{declared_want, declared_wants}
 use Rattle.bank_alloc.specs.declared.places.Place.{Place}
-use Rattle.bank_alloc.specs.Layout.{IsLaidOut, placed_symbol, placed_symbols}
-use Rattle.scratch_alloc.specs.Plans.{Plan, IsSoundPlan, no_decl, no_place}
+use Rattle.bank_alloc.specs.Prelude.{IsLaidOut, placed_symbol, placed_symbols}
+use Rattle.scratch_alloc.specs.Prelude.{Plan, IsSoundPlan, no_decl, no_place}
 use Rattle.code_gen.proofs.WantedInputs.{planned-want_is}
 
 -- what variables want is what their symbols want

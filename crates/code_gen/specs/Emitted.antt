@@ -1,7 +1,6 @@
 -- For the proofs and for private clauses only: what a call appends for statements of public code.
 use Rattle.std.specs.Prelude.{◌≡◌, ℕ, ◌+◌, ◌-◌, ◌*◌, ◌≤◌, Bool, ◌||◌, ◌==◌, pos, negsuc, List, [], ◌∷◌, ◌++◌, length, slice_set}
 use Rattle.gr_word.specs.declared.operations.Cmp.{Cmp}
-use Rattle.gr_word.specs.declared.variables.Label.TheVariants as label
 use Rattle.lt_isa.specs.Limits.{most_instructions}
 use Rattle.lt_isa.specs.declared.symbols.Note.{Note}
 use Rattle.lt_isa.specs.declared.instructions.Instr.{Instr}
@@ -21,6 +20,7 @@ use Rattle.block_cache_gen.specs.Emitted.{Appended}
 use Rattle.block_cache_gen.specs.ProgramWords.{StatementHasWords}
 use Rattle.branch_padding.specs.Padded.{padded_code}
 use Rattle.code_gen.specs.Statements.{Padding, opposite, second_code, statement_code, block_code, statement_notes, block_notes, ends_noted, block_ends_noted, head_note, head_unless}
+use Rattle.gr_word.specs.declared.variables.Label.TheVariants as label
 
 -- the code of branches on secrets
 abbrev pub padding_of : Padding

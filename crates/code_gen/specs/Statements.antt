@@ -5,7 +5,6 @@ use Rattle.std.specs.Prelude.{ℕ, ◌+◌, ◌-◌, Bool, true, false, pos, neg
 use Rattle.gr_word.specs.declared.operations.Cmp.{Cmp}
 use Rattle.gr_word.specs.declared.operations.Cmp.TheVariants.{Eq, Ne, Lt, Le, Gt, Ge}
 use Rattle.gr_word.specs.declared.variables.Label.{Label}
-use Rattle.gr_word.specs.declared.variables.Label.TheVariants as label
 use Rattle.lt_isa.specs.declared.symbols.Note.{Note}
 use Rattle.lt_isa.specs.declared.instructions.Instr.{Instr}
 use Rattle.lt_isa.specs.declared.instructions.Instr.TheVariants.{Jmp, Br}
@@ -18,6 +17,7 @@ use Rattle.block_cache_gen.specs.Homes.{Setting}
 use Rattle.block_cache_gen.specs.Codes.{guard_code, set_code}
 use Rattle.block_cache_gen.specs.Notes.{base_mask, note_of, guard_notes, set_notes}
 use Rattle.branch_padding.specs.AfterStatements.{after, behind_loop, within_loop}
+use Rattle.gr_word.specs.declared.variables.Label.TheVariants as label
 
 -- the code of a branch on a secret
 abbrev pub Padding : Type 0
@@ -83,10 +83,8 @@ is_public label.Public = true
 is_public label.Secret = false
 
 abbrev pub ends_noted : List Decl → Statement → Bool
-ends_noted decls (SetVariable x e) = false
-ends_noted decls (SetElement x i e) = false
 ends_noted decls (Choice t a b) = is_public (label_of_test (context_of decls) t)
-ends_noted decls (Loop t a) = false
+ends_noted decls other = false
 
 abbrev pub block_ends_noted : List Decl → Block → Bool
 block_ends_noted decls Nothing = false

@@ -1,5 +1,5 @@
 ghost use Rattle.std.specs.Prelude.{◌≡◌, IfOk};
-ghost use Rattle.compiled_objects.specs.Compiles.{latency_for};
+ghost use Rattle.compiled_objects.specs.Prelude.{latency_for};
 ghost use Rattle.code_gen.specs.Made.{banks_from};
 
 use gr_base::Memory;

@@ -1,7 +1,7 @@
 ghost use Rattle.std.specs.Prelude.{◌≡◌, ◌-◌, ◌^◌, ◌<◌, ◌≤◌, pos, negsuc, [], ◌∷◌, OnOk, length, slice_set};
-ghost use Rattle.lt_isa.specs.Limits.{most_instructions};
+ghost use Rattle.lt_isa.specs.Prelude.{most_instructions};
 ghost use Rattle.lt_isa.specs.declared.instructions.Instr.TheVariants.{Br};
-ghost use Rattle.block_cache_gen.specs.Emitted.{Appended};
+ghost use Rattle.block_cache_gen.specs.Prelude.{Appended};
 ghost use Rattle.code_gen.specs.Statements.{head_note, head_unless, opposite};
 
 use block_cache_gen::{CodeBuf, Emitter};

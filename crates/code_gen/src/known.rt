@@ -1,7 +1,7 @@
 ghost use Rattle.std.specs.Prelude.{◌≡◌, IfOk};
-ghost use Rattle.scalar_ranges.specs.Known.{after_statement, forgotten_block, inside};
-ghost use Rattle.src_tree.specs.Trees.{block_of_all, statement_of, test_of};
-ghost use Rattle.compiled_objects.specs.Compiles.{at_start};
+ghost use Rattle.scalar_ranges.specs.Prelude.{after_statement, forgotten_block, inside};
+ghost use Rattle.src_tree.specs.Prelude.{block_of_all, statement_of, test_of};
+ghost use Rattle.compiled_objects.specs.Prelude.{at_start};
 
 use block_cache_gen::Emitter;
 use gr_base::Memory;

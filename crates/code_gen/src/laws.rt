@@ -1,10 +1,7 @@
 ghost use Rattle.std.specs.Prelude.{◌≡◌, ◌+◌, ◌<◌, ℕ, false, length};
-ghost use Rattle.lt_isa.specs.Object.{Parts};
-ghost use Rattle.trace_patterns.specs.Accepts.{Accepts, has_secret_in_ram};
-ghost use Rattle.trace_patterns.specs.Known.{Known, start_known};
-ghost use Rattle.trace_patterns.specs.Rules.{Leaves, ruling_at};
-ghost use Rattle.stretches.specs.Checked.{CheckedUpTo};
-ghost use Rattle.stretches.specs.Passing.{HoldsAt, Passes};
+ghost use Rattle.lt_isa.specs.Prelude.{Parts};
+ghost use Rattle.trace_patterns.specs.Prelude.{Accepts, has_secret_in_ram, Known, start_known, Leaves, ruling_at};
+ghost use Rattle.stretches.specs.Prelude.{CheckedUpTo, HoldsAt, Passes};
 
 /// Does nothing; its clauses state what it means that a stretch of public code is passed, as the clauses of the calls
 /// that make code do. The check's state on entry to its first place is carried to the place after it, and no place

@@ -1,8 +1,7 @@
 ghost use Rattle.std.specs.Prelude.{◌≡◌, ◌≤◌, IfOk, OnOk, length};
-ghost use Rattle.src_tree.specs.Trees.{block_of_all, expr_tree, source_of, statement_of, test_of};
-ghost use Rattle.block_cache_gen.specs.ProgramWords.{BlockHasWords, StatementHasWords};
-ghost use Rattle.block_cache_gen.specs.TreeWords.{HasWords, TestHasWords};
-ghost use Rattle.compiled_objects.specs.HeldNumbers.{held_for, with_block, with_place, with_places, with_statement, with_test, with_tree};
+ghost use Rattle.src_tree.specs.Prelude.{block_of_all, expr_tree, source_of, statement_of, test_of};
+ghost use Rattle.block_cache_gen.specs.Prelude.{BlockHasWords, StatementHasWords, HasWords, TestHasWords};
+ghost use Rattle.compiled_objects.specs.Prelude.{held_for, with_block, with_place, with_places, with_statement, with_test, with_tree};
 
 use bank_alloc::Place;
 use block_cache_gen::reducer_at;

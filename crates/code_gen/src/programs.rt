@@ -1,15 +1,9 @@
 ghost use Rattle.std.specs.Prelude.{◌≡◌, ◌≤◌, ◌<◌, ℕ, IfOk, OnOk, length};
 ghost use Rattle.gr_word.specs.declared.variables.Label.TheVariants.{Public};
-ghost use Rattle.src_tree.specs.Contexts.{context_of};
-ghost use Rattle.src_tree.specs.Limits.{LowBlock, block_weight, max_weight};
-ghost use Rattle.src_tree.specs.Trees.{block_of_all};
-ghost use Rattle.src_tree.specs.Typing.{TypedBlock};
+ghost use Rattle.src_tree.specs.Prelude.{context_of, LowBlock, block_weight, max_weight, block_of_all, TypedBlock};
 ghost use Rattle.held_registers.specs.declared.registers.Held.TheVariants.{Scalar};
-ghost use Rattle.held_registers.specs.Held.{secret_zero};
-ghost use Rattle.block_cache_gen.specs.HeldCodes.{each_held};
-ghost use Rattle.block_cache_gen.specs.Settings.{IsFrame, setting_of};
-ghost use Rattle.block_cache_gen.specs.Emitted.{Appended, no_notes};
-ghost use Rattle.block_cache_gen.specs.ProgramWords.{BlockHasWords};
+ghost use Rattle.held_registers.specs.Prelude.{secret_zero};
+ghost use Rattle.block_cache_gen.specs.Prelude.{each_held, IsFrame, setting_of, Appended, no_notes, BlockHasWords};
 ghost use Rattle.code_gen.specs.Emitted.{padding_of};
 ghost use Rattle.code_gen.specs.Programs.{access, beginning, each_slot, ending, program_code, program_notes, register_code, slot_code};
 

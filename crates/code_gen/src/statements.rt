@@ -1,15 +1,9 @@
 ghost use Rattle.std.specs.Prelude.{◌≡◌, ◌+◌, ◌*◌, ◌<◌, ◌≤◌, IfOk, OnOk, length};
 ghost use Rattle.gr_word.specs.declared.variables.Label.TheVariants.{Public};
-ghost use Rattle.src_tree.specs.Contexts.{context_of};
-ghost use Rattle.src_tree.specs.Heights.{height_of};
-ghost use Rattle.src_tree.specs.Labels.{label_of_test};
-ghost use Rattle.src_tree.specs.Limits.{LowBlock, block_weight, test_weight};
-ghost use Rattle.src_tree.specs.Trees.{block_of_all, statement_of, test_of, expr_tree, Loop, SetElement, SetVariable};
-ghost use Rattle.src_tree.specs.Typing.{TypedBlock, TypedTest};
-ghost use Rattle.lt_isa.specs.Limits.{most_instructions};
-ghost use Rattle.block_cache_gen.specs.ProgramWords.{BlockHasWords};
-ghost use Rattle.block_cache_gen.specs.TreeWords.{TestHasWords};
-ghost use Rattle.branch_padding.specs.EmittedBranches.{choice_of};
+ghost use Rattle.src_tree.specs.Prelude.{context_of, height_of, label_of_test, LowBlock, block_weight, test_weight, block_of_all, statement_of, test_of, expr_tree, Loop, SetElement, SetVariable, TypedBlock, TypedTest};
+ghost use Rattle.lt_isa.specs.Prelude.{most_instructions};
+ghost use Rattle.block_cache_gen.specs.Prelude.{BlockHasWords, TestHasWords};
+ghost use Rattle.branch_padding.specs.Prelude.{choice_of};
 ghost use Rattle.code_gen.specs.Emitted.{ClosesLoop, EmitsBlock, MayFollow, Puts};
 ghost use Rattle.code_gen.specs.Statements.{block_ends_noted, ends_noted};
 

@@ -6,7 +6,7 @@ use Rattle.clap.specs.Kinds.{Kinds, or_else}
 use Rattle.clap.specs.Walk.{Held, Row, Text, Walk, idle, is_pending, positional, reacted, settled, arg_by_id, arg_by_index}
 use Rattle.clap.specs.Simple.{Shape}
 use Rattle.clap.specs.Faults.{walk_fault}
-use Rattle.command_words.specs.CommandLines.{AFlag, AName, AnOption, Apart, Behind, Ended, Flagged, IsAmong, IsLine, IsPlain, Joined, Named, Part}
+use Rattle.command_words.specs.Prelude.{AFlag, AName, AnOption, Apart, Behind, Ended, Flagged, IsAmong, IsLine, IsPlain, Joined, Named, Part}
 use Rattle.command_words.proofs.BusWalks.{AreAlike, Eased, end-alike, goes-on, goes-on-behind, names_rule, starts, starts-behind, wrong-alike}
 use Rattle.command_words.proofs.WordLooks.{long-joined}
 use Rattle.command_words.proofs.WordWalks.{Leads, at, dashed, hold, joined, last, led-last, led-wrong, named_held, option_rule, or-nil, plain-word, settling, wrong}

@@ -8,7 +8,7 @@ use Rattle.clap.specs.Kinds.{Kinds}
 use Rattle.clap.specs.Walk.{Held, Row, Rule, Text, Walk, idle, is_pending, option, positional, arg_by_id, arg_by_index, arg_by_long}
 use Rattle.clap.specs.Simple.{Shape}
 use Rattle.clap.specs.Faults.{flag_word_fault, long_fault, turn_fault, walk_fault}
-use Rattle.command_words.specs.CommandLines.{AName, AnOption, Apart, AreTexts, Behind, Ended, IsAmong, IsLine, IsPlain, Joined, Named, Part}
+use Rattle.command_words.specs.Prelude.{AName, AnOption, Apart, AreTexts, Behind, Ended, IsAmong, IsLine, IsPlain, Joined, Named, Part}
 use Rattle.command_words.proofs.BusWalks.{Eased, goes-on, names_rule, starts, wrong-alike}
 use Rattle.command_words.proofs.WordLooks.{AtEquals, Cut, Dashes, Long, Looks, Plain, Short, Uncut, cut, looks, short-word}
 use Rattle.command_words.proofs.WordWalks.{Leads, apart, at, given, hold, joined, plain-word, settling, wrong}

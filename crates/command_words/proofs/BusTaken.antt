@@ -8,17 +8,17 @@ use Rattle.clap.specs.Takes.{is_given}
 use Rattle.clap.specs.Walk.{Row, Rule, Text, arg_by_id, arg_by_index, idle, nothing_held, rows_after, settled, walk, walk_from, with_default}
 use Rattle.clap.specs.Simple.{Shape, entered}
 use Rattle.clap.specs.Faults.{built_fault, check_fault, entered_fault, walk_fault}
-use Rattle.clap.specs.declared.error.kind.ErrorKind.TheVariants as kind
-use Rattle.command_words.specs.CommandLines.{AreTexts, IsAmong, IsLine, Part}
+use Rattle.command_words.specs.Prelude.{AreTexts, IsAmong, IsLine, Part}
 use Rattle.command_words.proofs.BusRead.{runs, walks-runs}
 use Rattle.command_words.proofs.BusRefused.{claims}
 use Rattle.command_words.proofs.BusTogether.{runs-set}
 use Rattle.command_words.proofs.BusUsed.{AreNew, ids_of, new-rows, none-stands, rows_of, wrong-new}
 use Rattle.command_words.proofs.BusWalks.{names_rule}
 use Rattle.command_words.proofs.WordWalks.{at, both-none, settling, wrong}
-use Rattle.command_words.proofs.WordsFound.{PartsOf, no-default-kept, parts-of}
+use Rattle.command_words.proofs.WordsFound.{no-default-kept}
 use Rattle.command_words.proofs.WordsRead.{Table, Walks, uses_wrong}
 use Rattle.command_words.proofs.WordsTaken.{NoDefaults, no-defaults, only}
+use Rattle.clap.specs.declared.error.kind.ErrorKind.TheVariants as kind
 
 kept-all : (rules : List Rule) → NoDefaults rules → (rows : List Row) → fold with_default rows rules ≡ rows
 kept-all [] none rows = refl
@@ -45,9 +45,6 @@ module _ (s : Shape) (id : Text) (options : List Text) (is : IsOfNames s id opti
   pub record Uses (words : List Text) (parts : List Part) : Type 0 where
     pub line : IsLine options [] words parts
     pub new : AreNew [] (ids_of (runs id parts))
-
-  abbrev of-options : (words : List Text) (parts : List Part) → IsLine options [] words parts → PartsOf options [] parts
-  of-options words parts line = parts-of options [] words parts line
 
   -- what is found
   pub rows-used : (words : List Text) (parts : List Part) → Uses words parts

@@ -4,7 +4,7 @@ use Rattle.std.specs.Str.{bytes_eq}
 use Rattle.clap.specs.Kinds.{range_kinds}
 use Rattle.clap.specs.Walk.{Row, Text, first_of}
 use Rattle.clap.specs.Simple.{Shape}
-use Rattle.command_words.specs.CommandLines.{AFlag, AName, AnOption, AreOnce, IsAmong, Part, StandTogether, names_in, value_in}
+use Rattle.command_words.specs.Prelude.{AFlag, AName, AnOption, AreOnce, IsAmong, Part, StandTogether, names_in, value_in}
 use Rattle.command_words.proofs.BusRead.{runs, within}
 use Rattle.command_words.proofs.BusUsed.{AllSet, AllSized, AreNew, ids_of, names-set, option-sets, row_of, rows_of}
 use Rattle.command_words.proofs.BusWalks.{names_rule}

@@ -7,7 +7,7 @@ use Rattle.clap.specs.Kinds.{Kinds, or_else, range_kinds}
 use Rattle.clap.specs.Walk.{Row, Text, has_row, most_values, reading_by, used}
 use Rattle.clap.specs.Simple.{Shape}
 use Rattle.clap.specs.Faults.{repeat_fault, use_fault, values_fault}
-use Rattle.command_words.specs.CommandLines.{IsAmong}
+use Rattle.command_words.specs.Prelude.{IsAmong}
 use Rattle.command_words.proofs.BusWalks.{names_rule}
 use Rattle.command_words.proofs.WordWalks.{both-none, option_rule}
 use Rattle.command_words.proofs.WordsRead.{Use, same-text, use_of, uses_rows, uses_wrong}

@@ -8,7 +8,7 @@ use Rattle.clap.specs.Walk.{Held, Outcome, Row, Rule, Step, Text, Walk, after_fl
 use Rattle.clap.specs.Simple.{Shape, filled, with_index}
 use Rattle.clap.specs.Faults.{step_fault, turn_fault, walk_fault, word_fault}
 use Rattle.command_words.specs.declared.verbs.Argument.TheVariants.{Words}
-use Rattle.command_words.specs.VerbRows.{rule_for}
+use Rattle.command_words.specs.Prelude.{rule_for}
 use Rattle.command_words.proofs.WordWalks.{Leads, PlainWord, at, hold, last, led-wrong, named_held, settling, wrong}
 
 -- the rule of the names, the first positional

@@ -10,12 +10,7 @@ use Rattle.clap.specs.Takes.{is_given}
 use Rattle.clap.specs.Walk.{Row, Rule, Text, all_of, first_of, nothing_held, rows_after}
 use Rattle.clap.specs.Simple.{Shape, built, matches_of}
 use Rattle.clap.specs.Faults.{built_fault, fault_of}
-use Rattle.command_words.specs.Asks.{bus_app, bus_asks, bus_named, bus_named_on, bus_of}
-use Rattle.command_words.specs.CommandLines.{AFlag, AName, AnOption, AreOnce, AreTexts, IsAmong, IsLine, Part, Says, StandTogether, names_in, run_options, value_in}
-use Rattle.command_words.specs.Options.{asked_by, none_wrong, number_given, seed_given}
-use Rattle.command_words.specs.Pairs.{Pair, in_pairs, pairs_of}
-use Rattle.command_words.specs.Verbs.{Works, asked_for, asked_work, verb_named}
-use Rattle.command_words.specs.WordsAsk.{AskExactly, AsksForBus}
+use Rattle.command_words.specs.Prelude.{bus_app, bus_asks, bus_named, bus_named_on, bus_of, AFlag, AName, AnOption, AreOnce, AreTexts, IsAmong, IsLine, Part, Says, StandTogether, names_in, run_options, value_in, asked_by, none_wrong, number_given, seed_given, Pair, in_pairs, pairs_of, Works, asked_for, asked_work, verb_named, AskExactly, AsksForBus}
 use Rattle.command_words.proofs.BusRead.{runs}
 use Rattle.command_words.proofs.BusTaken.{IsOfNames, Uses, rows-used, takes-uses, uses-of}
 use Rattle.command_words.proofs.BusTogether.{new-once, new-together, none-found, runs-set, runs-split, runs-value, split, split-found, split-new, split-sized, split_uses, use_names}

@@ -7,19 +7,18 @@ use Rattle.clap.proofs.CutLemmas.{Lacks}
 use Rattle.clap.proofs.WalkLemmas.{both}
 use Rattle.clap.specs.Lexer.{usize_max}
 use Rattle.clap.specs.Takes.{is_given}
-use Rattle.clap.specs.declared.error.kind.ErrorKind.TheVariants as kind
 use Rattle.clap.specs.Walk.{Row, Rule, Text, arg_by_id, arg_by_long}
 use Rattle.clap.specs.Simple.{App, Shape, filled_from, help_rule, new_app, with_rule}
 use Rattle.command_words.specs.declared.verbs.Argument.{Argument}
 use Rattle.command_words.specs.declared.verbs.Argument.TheVariants.{Word, Valued, Flag}
-use Rattle.command_words.specs.CommandLines.{IsAmong}
-use Rattle.command_words.specs.VerbRows.{VerbRow, assemble_row, check_row, command_of, compile_row, disassemble_row, evaluate_row, infer_row, rule_for, run_row, sample_row, trace_row, with_all}
+use Rattle.command_words.specs.Prelude.{IsAmong, VerbRow, assemble_row, check_row, command_of, compile_row, disassemble_row, evaluate_row, infer_row, rule_for, run_row, sample_row, trace_row, with_all}
 use Rattle.command_words.proofs.WordLooks.{lacks-test}
 use Rattle.command_words.proofs.WordCommands.{AllApart, AllKnown, AllKnownFlags, AreRules, apart-of}
 use Rattle.command_words.proofs.WordsAsked.{IsVerb, shape}
 use Rattle.command_words.proofs.WordsRead.{Known, KnownFlag, Places, built_help, same-text}
 use Rattle.command_words.proofs.WordsUsed.{AllDiffer, DifferFrom, differ-at, differ-back, text-is}
 use Rattle.command_words.proofs.WordWalks.{flag_rule, name_rule, option_rule}
+use Rattle.clap.specs.declared.error.kind.ErrorKind.TheVariants as kind
 
 -- a row's command is one of its names, options and flags
 abbrev pub IsVerbRow : VerbRow → Type 0

@@ -4,8 +4,7 @@ use Rattle.clap.specs.Words.{is_simple, is_simple_and_free}
 use Rattle.clap.proofs.OnLiterals.{clap_on_literals}
 use Rattle.command_words.specs.declared.verbs.Verb.{Verb}
 use Rattle.command_words.specs.declared.verbs.Verb.TheVariants.{Check, Trace, Run, Assemble, Disassemble, Evaluate, Compile, Sample, Bus, Infer}
-use Rattle.command_words.specs.VerbRows.{command_of}
-use Rattle.command_words.specs.Verbs.{row_of}
+use Rattle.command_words.specs.Prelude.{command_of, row_of}
 
 pub stated : (verb : Verb)
     → (is_simple (command_of (row_of verb)) ≡ true) × (is_simple_and_free (command_of (row_of verb)) ≡ true)

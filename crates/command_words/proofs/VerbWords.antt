@@ -4,13 +4,7 @@ use Rattle.std.specs.Prelude.{codes, option_and_then}
 use Rattle.std.specs.Option.{option_map}
 use Rattle.std.specs.Str.{bytes_eq}
 use Rattle.clap.specs.Walk.{Row, Text, first_of}
-use Rattle.command_words.specs.Asks.{check_asks, compile_asks, compile_named, evaluate_asks, evaluate_named, run_asks, run_named, sample_asks, sample_named, trace_asks, trace_named, two_asks}
-use Rattle.command_words.specs.CommandLines.{AreTexts, IsAmong, Part, Says, compile_options, has_flag, names_in, run_options, value_in}
-use Rattle.command_words.specs.Options.{asked_by, block_log_given, flag_given, items_given, number_given, seed_given, two_named}
-use Rattle.command_words.specs.VerbRows.{VerbRow, check_row, command_of, compile_row, evaluate_row, row_of_two, run_row, sample_row, trace_row}
-use Rattle.command_words.specs.Verbs.{Works, asked_for, asked_work, verb_named}
-use Rattle.command_words.specs.Windows.{window_given}
-use Rattle.command_words.specs.WordsAsk.{AskExactly, AsksByOne, AsksByTwo, AsksToCompile, AsksToEvaluate, AsksToRun, AsksToSample, AsksToTrace, WordsAsk, verb_names}
+use Rattle.command_words.specs.Prelude.{check_asks, compile_asks, compile_named, evaluate_asks, evaluate_named, run_asks, run_named, sample_asks, sample_named, trace_asks, trace_named, two_asks, AreTexts, IsAmong, Part, Says, compile_options, has_flag, names_in, run_options, value_in, asked_by, block_log_given, flag_given, items_given, number_given, seed_given, two_named, VerbRow, check_row, command_of, compile_row, evaluate_row, row_of_two, run_row, sample_row, trace_row, Works, asked_for, asked_work, verb_named, window_given, AskExactly, AsksByOne, AsksByTwo, AsksToCompile, AsksToEvaluate, AsksToRun, AsksToSample, AsksToTrace, WordsAsk, verb_names}
 use Rattle.command_words.specs.declared.windows.Window.{Window}
 use Rattle.command_words.proofs.BusWords.{bus-words}
 use Rattle.command_words.proofs.VerbCommands.{IsVerbRow, assemble-verb, check-verb, compile-verb, disassemble-verb, evaluate-verb, infer-verb, run-verb, sample-verb, trace-verb}
@@ -90,12 +84,6 @@ module _ (row : VerbRow) where
     row-asked asks words parts says =
         says-asked (command_of row) row.options row.flags row.places row.name is asks words parts says
 
-    -- what the row makes of words that say these parts and ask for work
-    row-made : {W : Type 0} (asks : List Row → Option W) (words : List Text) (parts : List Part) (work : W)
-        (made : Option W) → SaysRow words parts
-        → (SaysRow words parts → asks (found_by parts) ≡ made) → asked_behind asks words ≡ Some work → made ≡ Some work
-    row-made asks words parts work made says makes asked = sym (row-asked asks words parts says ∙ makes says) ∙ asked
-
     module _ (words : List Text) (parts : List Part) (says : SaysRow words parts) where
       name-of : (names : List Text) → names_in parts ≡ names → (x : Text) → IsAmong row.places x
           → first_of x (found_by parts) ≡ name_at x row.places names
@@ -114,10 +102,13 @@ module _ (row : VerbRow) where
 module _ {W : Type 0} (works : Works W) where
   -- ---- verbs without options
 
-  check-asks : (words : List Text) (parts : List Part) (t : Text) → SaysRow check_row words parts
-      → names_in parts ≡ t ∷ [] → check_asks works.check (found_by check_row parts) ≡ Some (works.check t)
-  check-asks words parts t says are =
-      ap (option_map works.check) (name-of check_row check-verb words parts says (t ∷ []) are (codes "OBJ") (inl refl))
+  check-made : (words : List Text) (parts : List Part) (t : Text) → Says [] [] words (t ∷ []) parts
+      → asked_behind check_row (check_asks works.check) words ≡ Some (works.check t)
+  check-made words parts t given =
+      let says = says-all check_row words (t ∷ []) parts given tt in
+      row-asked check_row check-verb (check_asks works.check) words parts says
+      ∙ ap (option_map works.check)
+      (name-of check_row check-verb words parts says (t ∷ []) given.are (codes "OBJ") (inl refl))
 
   check-words : AskExactly works (codes "check") (AsksByOne works.check)
   unfolding verb_named asked_for
@@ -125,17 +116,14 @@ module _ {W : Type 0} (works : Works W) where
     (λ asked.
         let found = asked-row check_row check-verb (check_asks works.check) words work texts asked in
         let one = one-name (names_in found.0) (codes "OBJ") found.1.names in
+        let says = all-says check_row words (one.0 ∷ []) found.0 found.1 one.1 in
         record {
           name = one.0;
           parts = found.0;
-          says = all-says check_row words (one.0 ∷ []) found.0 found.1 one.1;
-          is = some-work (works.check one.0) work (sym (check-asks words found.0 one.0 found.1 one.1) ∙ found.2);
+          says = says;
+          is = some-work (works.check one.0) work (sym (check-made words found.0 one.0 says) ∙ asked);
         }),
-    (λ asks.
-        let says = says-all check_row words (asks.name ∷ []) asks.parts asks.says tt in
-        row-asked check_row check-verb (check_asks works.check) words asks.parts says
-        ∙ check-asks words asks.parts asks.name says asks.says.are
-        ∙ ap Some (sym asks.is)),
+    (λ asks. check-made words asks.parts asks.name asks.says ∙ ap Some (sym asks.is)),
   )
 
   -- two names
@@ -144,16 +132,17 @@ module _ {W : Type 0} (works : Works W) where
     abbrev of_two : VerbRow
     of_two = row_of_two verb a b
 
-    asks-two : (words : List Text) (parts : List Part) (t u : Text) → SaysRow of_two words parts
-        → names_in parts ≡ t ∷ u ∷ [] → two_asks a b work_on (found_by of_two parts) ≡ Some (work_on t u)
-    asks-two words parts t u says are =
-        let name = name-of of_two is words parts says (t ∷ u ∷ []) are in
+    two-made : (words : List Text) (parts : List Part) (t u : Text) → Says [] [] words (t ∷ u ∷ []) parts
+        → asked_behind of_two (two_asks a b work_on) words ≡ Some (work_on t u)
+    two-made words parts t u given =
+        let says = says-all of_two words (t ∷ u ∷ []) parts given tt in
+        let name = name-of of_two is words parts says (t ∷ u ∷ []) given.are in
         let first : first_of a (found_by of_two parts) ≡ Some t =
         name a (inl refl) ∙ ap (λ (e : Bool). cond e (Some t) (name_at a (b ∷ []) (u ∷ []))) (same-text a) in
         let second : first_of b (found_by of_two parts) ≡ Some u =
         name b (inr (inl refl)) ∙ ap (λ (e : Bool). cond e (Some t) (name_at b (b ∷ []) (u ∷ []))) differ
         ∙ ap (λ (e : Bool). cond e (Some u) None) (same-text b) in
-        λ k. two_named work_on (first k) (second k)
+        row-asked of_two is (two_asks a b work_on) words parts says ∙ (λ k. two_named work_on (first k) (second k))
 
     two-asked : (words : List Text) (work : W) → AreTexts words
         → asked_behind of_two (two_asks a b work_on) words ≡ Some work
@@ -161,22 +150,18 @@ module _ {W : Type 0} (works : Works W) where
     two-asked words work texts asked =
         let found = asked-row of_two is (two_asks a b work_on) words work texts asked in
         let two = two-names (names_in found.0) a b found.1.names in
+        let says = all-says of_two words (two.0 ∷ two.1 ∷ []) found.0 found.1 two.2 in
         record {
           first = two.0;
           second = two.1;
           parts = found.0;
-          says = all-says of_two words (two.0 ∷ two.1 ∷ []) found.0 found.1 two.2;
-          is = some-work (work_on two.0 two.1) work
-              (sym (asks-two words found.0 two.0 two.1 found.1 two.2) ∙ found.2);
+          says = says;
+          is = some-work (work_on two.0 two.1) work (sym (two-made words found.0 two.0 two.1 says) ∙ asked);
         }
 
     asked-two : (words : List Text) (work : W) → AsksByTwo work_on words work
         → asked_behind of_two (two_asks a b work_on) words ≡ Some work
-    asked-two words work by =
-        let says = says-all of_two words (by.first ∷ by.second ∷ []) by.parts by.says tt in
-        row-asked of_two is (two_asks a b work_on) words by.parts says
-        ∙ asks-two words by.parts by.first by.second says by.says.are
-        ∙ ap Some (sym by.is)
+    asked-two words work by = two-made words by.parts by.first by.second by.says ∙ ap Some (sym by.is)
 
   assemble-words : AskExactly works (codes "asm") (AsksByTwo works.assemble)
   unfolding verb_named asked_for
@@ -201,21 +186,24 @@ module _ {W : Type 0} (works : Works W) where
 
   -- ---- `trace`
 
-  trace-asks : (words : List Text) (parts : List Part) (t u : Text) → SaysRow trace_row words parts
-      → names_in parts ≡ t ∷ u ∷ [] → trace_asks works.trace (found_by trace_row parts)
+  trace-made : (words : List Text) (parts : List Part) (t u : Text)
+      → Says run_options (codes "paths" ∷ codes "recursive" ∷ []) words (t ∷ u ∷ []) parts
+      → asked_behind trace_row (trace_asks works.trace) words
       ≡ option_and_then (λ n. option_map (λ s.
       works.trace t u n s (has_flag (codes "paths") parts) (has_flag (codes "recursive") parts))
       (seed_given (value_in (codes "seed") parts))) (number_given (value_in (codes "cycles") parts))
-  trace-asks words parts t u says are =
+  trace-made words parts t u given =
+      let says = says-all trace_row words (t ∷ u ∷ []) parts given tt in
       let rows = found_by trace_row parts in
-      let name = name-of trace_row trace-verb words parts says (t ∷ u ∷ []) are in
+      let name = name-of trace_row trace-verb words parts says (t ∷ u ∷ []) given.are in
       let first : first_of (codes "OBJ") rows ≡ Some t = name (codes "OBJ") (inl refl) in
       let second : first_of (codes "INPUT") rows ≡ Some u = name (codes "INPUT") (inr (inl refl)) in
       let cycles = value-of trace_row trace-verb words parts says (codes "cycles") (inl refl) in
       let seed = value-of trace_row trace-verb words parts says (codes "seed") (inr (inl refl)) in
       let paths = flag-of trace_row trace-verb words parts says (codes "paths") (inl refl) in
       let recursive = flag-of trace_row trace-verb words parts says (codes "recursive") (inr (inl refl)) in
-      (λ k. trace_named works.trace (first k) (second k) (cycles k) (seed k) (first_of (codes "paths") rows)
+      row-asked trace_row trace-verb (trace_asks works.trace) words parts says
+      ∙ (λ k. trace_named works.trace (first k) (second k) (cycles k) (seed k) (first_of (codes "paths") rows)
       (first_of (codes "recursive") rows))
       ∙ (λ k. option_and_then (λ n. option_map (λ s. works.trace t u n s (paths k) (recursive k))
       (seed_given (value_in (codes "seed") parts))) (number_given (value_in (codes "cycles") parts)))
@@ -233,9 +221,7 @@ module _ {W : Type 0} (works : Works W) where
       two-given
       (λ n s. works.trace object input n s (has_flag (codes "paths") parts) (has_flag (codes "recursive") parts))
       work (number_given (value_in (codes "cycles") parts)) (seed_given (value_in (codes "seed") parts))
-      (row-made trace_row trace-verb (trace_asks works.trace) words parts work _
-      (says-all trace_row words (object ∷ input ∷ []) parts says tt)
-      (λ all. trace-asks words parts object input all says.are) asked)
+      (sym (trace-made words parts object input says) ∙ asked)
 
   trace-words : AskExactly works (codes "trace") (AsksToTrace works)
   unfolding verb_named asked_for
@@ -257,9 +243,7 @@ module _ {W : Type 0} (works : Works W) where
           is = given.4;
         }),
     (λ asks.
-        let says = says-all trace_row words (asks.object ∷ asks.input ∷ []) asks.parts asks.says tt in
-        row-asked trace_row trace-verb (trace_asks works.trace) words asks.parts says
-        ∙ trace-asks words asks.parts asks.object asks.input says asks.says.are
+        trace-made words asks.parts asks.object asks.input asks.says
         ∙ (λ k. option_and_then (λ n. option_map (λ s. works.trace asks.object asks.input n s
         (has_flag (codes "paths") asks.parts) (has_flag (codes "recursive") asks.parts)) (asks.seed_is k))
         (asks.cycles_given k)) ∙ ap Some (sym asks.is)),
@@ -267,19 +251,22 @@ module _ {W : Type 0} (works : Works W) where
 
   -- ---- `run`
 
-  run-asks : (words : List Text) (parts : List Part) (t u v : Text) → SaysRow run_row words parts
-      → names_in parts ≡ t ∷ u ∷ v ∷ [] → run_asks works.run (found_by run_row parts)
+  run-made : (words : List Text) (parts : List Part) (t u v : Text)
+      → Says run_options (codes "recursive" ∷ []) words (t ∷ u ∷ v ∷ []) parts
+      → asked_behind run_row (run_asks works.run) words
       ≡ option_and_then (λ n. option_map (λ s. works.run t u v n) (seed_given (value_in (codes "seed") parts)))
       (number_given (value_in (codes "cycles") parts))
-  run-asks words parts t u v says are =
+  run-made words parts t u v given =
+      let says = says-all run_row words (t ∷ u ∷ v ∷ []) parts given tt in
       let rows = found_by run_row parts in
-      let name = name-of run_row run-verb words parts says (t ∷ u ∷ v ∷ []) are in
+      let name = name-of run_row run-verb words parts says (t ∷ u ∷ v ∷ []) given.are in
       let first : first_of (codes "OBJ") rows ≡ Some t = name (codes "OBJ") (inl refl) in
       let second : first_of (codes "INPUT") rows ≡ Some u = name (codes "INPUT") (inr (inl refl)) in
       let third : first_of (codes "OUT") rows ≡ Some v = name (codes "OUT") (inr (inr (inl refl))) in
       let cycles = value-of run_row run-verb words parts says (codes "cycles") (inl refl) in
       let seed = value-of run_row run-verb words parts says (codes "seed") (inr (inl refl)) in
-      λ k. run_named works.run (first k) (second k) (third k) (cycles k) (seed k)
+      row-asked run_row run-verb (run_asks works.run) words parts says
+      ∙ (λ k. run_named works.run (first k) (second k) (third k) (cycles k) (seed k))
 
   pub run-given : (words : List Text) (object input output : Text) (parts : List Part) (work : W)
       → Says run_options (codes "recursive" ∷ []) words (object ∷ input ∷ output ∷ []) parts
@@ -290,9 +277,7 @@ module _ {W : Type 0} (works : Works W) where
   run-given words object input output parts work says asked =
       two-given (λ n (s : ℕ). works.run object input output n) work (number_given (value_in (codes "cycles") parts))
       (seed_given (value_in (codes "seed") parts))
-      (row-made run_row run-verb (run_asks works.run) words parts work _
-      (says-all run_row words (object ∷ input ∷ output ∷ []) parts says tt)
-      (λ all. run-asks words parts object input output all says.are) asked)
+      (sym (run-made words parts object input output says) ∙ asked)
 
   run-words : AskExactly works (codes "run") (AsksToRun works)
   unfolding verb_named asked_for
@@ -315,29 +300,29 @@ module _ {W : Type 0} (works : Works W) where
           is = given.4;
         }),
     (λ asks.
-        let says =
-        says-all run_row words (asks.object ∷ asks.input ∷ asks.output ∷ []) asks.parts asks.says tt in
-        row-asked run_row run-verb (run_asks works.run) words asks.parts says
-        ∙ run-asks words asks.parts asks.object asks.input asks.output says asks.says.are
+        run-made words asks.parts asks.object asks.input asks.output asks.says
         ∙ (λ k. option_and_then (λ n. option_map (λ s. works.run asks.object asks.input asks.output n) (asks.seed_is k))
         (asks.cycles_given k)) ∙ ap Some (sym asks.is)),
   )
 
   -- ---- `eval`
 
-  evaluate-asks : (words : List Text) (parts : List Part) (t u v : Text) → SaysRow evaluate_row words parts
-      → names_in parts ≡ t ∷ u ∷ v ∷ [] → evaluate_asks works.evaluate (found_by evaluate_row parts)
+  evaluate-made : (words : List Text) (parts : List Part) (t u v : Text)
+      → Says (codes "turns" ∷ []) (codes "procs" ∷ []) words (t ∷ u ∷ v ∷ []) parts
+      → asked_behind evaluate_row (evaluate_asks works.evaluate) words
       ≡ option_map (λ n. works.evaluate t u v n (has_flag (codes "procs") parts))
       (number_given (value_in (codes "turns") parts))
-  evaluate-asks words parts t u v says are =
+  evaluate-made words parts t u v given =
+      let says = says-all evaluate_row words (t ∷ u ∷ v ∷ []) parts given tt in
       let rows = found_by evaluate_row parts in
-      let name = name-of evaluate_row evaluate-verb words parts says (t ∷ u ∷ v ∷ []) are in
+      let name = name-of evaluate_row evaluate-verb words parts says (t ∷ u ∷ v ∷ []) given.are in
       let first : first_of (codes "SRC") rows ≡ Some t = name (codes "SRC") (inl refl) in
       let second : first_of (codes "INPUT") rows ≡ Some u = name (codes "INPUT") (inr (inl refl)) in
       let third : first_of (codes "OUT") rows ≡ Some v = name (codes "OUT") (inr (inr (inl refl))) in
       let turns = value-of evaluate_row evaluate-verb words parts says (codes "turns") (inl refl) in
       let procs = flag-of evaluate_row evaluate-verb words parts says (codes "procs") (inl refl) in
-      (λ k. evaluate_named works.evaluate (first k) (second k) (third k) (turns k) (first_of (codes "procs") rows))
+      row-asked evaluate_row evaluate-verb (evaluate_asks works.evaluate) words parts says
+      ∙ (λ k. evaluate_named works.evaluate (first k) (second k) (third k) (turns k) (first_of (codes "procs") rows))
       ∙ (λ k. option_map (λ n. works.evaluate t u v n (procs k)) (number_given (value_in (codes "turns") parts)))
 
   pub evaluate-given : (words : List Text) (source input output : Text) (parts : List Part) (work : W)
@@ -349,9 +334,7 @@ module _ {W : Type 0} (works : Works W) where
   evaluate-given words source input output parts work says asked =
       one-given (λ n. works.evaluate source input output n (has_flag (codes "procs") parts)) work
       (number_given (value_in (codes "turns") parts))
-      (row-made evaluate_row evaluate-verb (evaluate_asks works.evaluate) words parts work _
-      (says-all evaluate_row words (source ∷ input ∷ output ∷ []) parts says tt)
-      (λ all. evaluate-asks words parts source input output all says.are) asked)
+      (sym (evaluate-made words parts source input output says) ∙ asked)
 
   evaluate-words : AskExactly works (codes "eval") (AsksToEvaluate works)
   unfolding verb_named asked_for
@@ -372,10 +355,7 @@ module _ {W : Type 0} (works : Works W) where
           is = given.2;
         }),
     (λ asks.
-        let says =
-        says-all evaluate_row words (asks.source ∷ asks.input ∷ asks.output ∷ []) asks.parts asks.says tt in
-        row-asked evaluate_row evaluate-verb (evaluate_asks works.evaluate) words asks.parts says
-        ∙ evaluate-asks words asks.parts asks.source asks.input asks.output says asks.says.are
+        evaluate-made words asks.parts asks.source asks.input asks.output asks.says
         ∙ (λ k. option_map
         (λ n. works.evaluate asks.source asks.input asks.output n (has_flag (codes "procs") asks.parts))
         (asks.turns_given k)) ∙ ap Some (sym asks.is)),
@@ -383,21 +363,24 @@ module _ {W : Type 0} (works : Works W) where
 
   -- ---- `compile`
 
-  compile-asks : (words : List Text) (parts : List Part) (t u : Text) → SaysRow compile_row words parts
-      → names_in parts ≡ t ∷ u ∷ [] → compile_asks works.compile (found_by compile_row parts)
+  compile-made : (words : List Text) (parts : List Part) (t u : Text)
+      → Says compile_options (codes "procs" ∷ codes "fast" ∷ []) words (t ∷ u ∷ []) parts
+      → asked_behind compile_row (compile_asks works.compile) words
       ≡ option_and_then (λ w. option_map (λ at.
       works.compile t u w at (has_flag (codes "fast") parts) (has_flag (codes "procs") parts))
       (window_given (value_in (codes "window") parts))) (block_log_given (value_in (codes "block-log") parts))
-  compile-asks words parts t u says are =
+  compile-made words parts t u given =
+      let says = says-all compile_row words (t ∷ u ∷ []) parts given tt in
       let rows = found_by compile_row parts in
-      let name = name-of compile_row compile-verb words parts says (t ∷ u ∷ []) are in
+      let name = name-of compile_row compile-verb words parts says (t ∷ u ∷ []) given.are in
       let first : first_of (codes "SRC") rows ≡ Some t = name (codes "SRC") (inl refl) in
       let second : first_of (codes "OUT") rows ≡ Some u = name (codes "OUT") (inr (inl refl)) in
       let block_log = value-of compile_row compile-verb words parts says (codes "block-log") (inl refl) in
       let window = value-of compile_row compile-verb words parts says (codes "window") (inr (inl refl)) in
       let procs = flag-of compile_row compile-verb words parts says (codes "procs") (inl refl) in
       let fast = flag-of compile_row compile-verb words parts says (codes "fast") (inr (inl refl)) in
-      (λ k. compile_named works.compile (first k) (second k) (block_log k) (window k) (first_of (codes "fast") rows)
+      row-asked compile_row compile-verb (compile_asks works.compile) words parts says
+      ∙ (λ k. compile_named works.compile (first k) (second k) (block_log k) (window k) (first_of (codes "fast") rows)
       (first_of (codes "procs") rows))
       ∙ (λ k. option_and_then (λ w. option_map (λ at. works.compile t u w at (fast k) (procs k))
       (window_given (value_in (codes "window") parts))) (block_log_given (value_in (codes "block-log") parts)))
@@ -414,9 +397,7 @@ module _ {W : Type 0} (works : Works W) where
       two-given
       (λ w at. works.compile source output w at (has_flag (codes "fast") parts) (has_flag (codes "procs") parts)) work
       (block_log_given (value_in (codes "block-log") parts)) (window_given (value_in (codes "window") parts))
-      (row-made compile_row compile-verb (compile_asks works.compile) words parts work _
-      (says-all compile_row words (source ∷ output ∷ []) parts says tt)
-      (λ all. compile-asks words parts source output all says.are) asked)
+      (sym (compile-made words parts source output says) ∙ asked)
 
   compile-words : AskExactly works (codes "compile") (AsksToCompile works)
   unfolding verb_named asked_for
@@ -438,9 +419,7 @@ module _ {W : Type 0} (works : Works W) where
           is = given.4;
         }),
     (λ asks.
-        let says = says-all compile_row words (asks.source ∷ asks.output ∷ []) asks.parts asks.says tt in
-        row-asked compile_row compile-verb (compile_asks works.compile) words asks.parts says
-        ∙ compile-asks words asks.parts asks.source asks.output says asks.says.are
+        compile-made words asks.parts asks.source asks.output asks.says
         ∙ (λ k. option_and_then (λ w. option_map (λ at. works.compile asks.source asks.output w at
         (has_flag (codes "fast") asks.parts) (has_flag (codes "procs") asks.parts)) (asks.window_is k))
         (asks.block_log_is k)) ∙ ap Some (sym asks.is)),
@@ -448,19 +427,22 @@ module _ {W : Type 0} (works : Works W) where
 
   -- ---- `sample`
 
-  sample-asks : (words : List Text) (parts : List Part) (t u : Text) → SaysRow sample_row words parts
-      → names_in parts ≡ t ∷ u ∷ [] → sample_asks works.sample (found_by sample_row parts)
+  sample-made : (words : List Text) (parts : List Part) (t u : Text)
+      → Says (codes "seed" ∷ []) (codes "fast" ∷ []) words (t ∷ u ∷ []) parts
+      → asked_behind sample_row (sample_asks works.sample) words
       ≡ option_and_then (λ n. option_map (λ s. works.sample (has_flag (codes "fast") parts) n u)
       (seed_given (value_in (codes "seed") parts)))
       (items_given t)
-  sample-asks words parts t u says are =
+  sample-made words parts t u given =
+      let says = says-all sample_row words (t ∷ u ∷ []) parts given tt in
       let rows = found_by sample_row parts in
-      let name = name-of sample_row sample-verb words parts says (t ∷ u ∷ []) are in
+      let name = name-of sample_row sample-verb words parts says (t ∷ u ∷ []) given.are in
       let first : first_of (codes "N") rows ≡ Some t = name (codes "N") (inl refl) in
       let second : first_of (codes "OUT") rows ≡ Some u = name (codes "OUT") (inr (inl refl)) in
       let seed = value-of sample_row sample-verb words parts says (codes "seed") (inl refl) in
       let fast = flag-of sample_row sample-verb words parts says (codes "fast") (inl refl) in
-      (λ k. sample_named works.sample (first k) (second k) (seed k) (first_of (codes "fast") rows))
+      row-asked sample_row sample-verb (sample_asks works.sample) words parts says
+      ∙ (λ k. sample_named works.sample (first k) (second k) (seed k) (first_of (codes "fast") rows))
       ∙ (λ k. option_and_then (λ n. option_map (λ s. works.sample (fast k) n u)
       (seed_given (value_in (codes "seed") parts)))
       (items_given t))
@@ -471,25 +453,23 @@ module _ {W : Type 0} (works : Works W) where
     (λ asked.
         let found = asked-row sample_row sample-verb (sample_asks works.sample) words work texts asked in
         let two = two-names (names_in found.0) (codes "N") (codes "OUT") found.1.names in
+        let says = all-says sample_row words (two.0 ∷ two.1 ∷ []) found.0 found.1 two.2 in
         let given =
         two-given (λ n s. works.sample (has_flag (codes "fast") found.0) n two.1) work (items_given two.0)
-        (seed_given (value_in (codes "seed") found.0))
-        (sym (sample-asks words found.0 two.0 two.1 found.1 two.2) ∙ found.2) in
+        (seed_given (value_in (codes "seed") found.0)) (sym (sample-made words found.0 two.0 two.1 says) ∙ asked) in
         record {
           number = two.0;
           output = two.1;
           parts = found.0;
           items = given.0;
           seed = given.1;
-          says = all-says sample_row words (two.0 ∷ two.1 ∷ []) found.0 found.1 two.2;
+          says = says;
           items_are = given.2;
           seed_is = given.3;
           is = given.4;
         }),
     (λ asks.
-        let says = says-all sample_row words (asks.number ∷ asks.output ∷ []) asks.parts asks.says tt in
-        row-asked sample_row sample-verb (sample_asks works.sample) words asks.parts says
-        ∙ sample-asks words asks.parts asks.number asks.output says asks.says.are
+        sample-made words asks.parts asks.number asks.output asks.says
         ∙ (λ k. option_and_then (λ n. option_map (λ s. works.sample (has_flag (codes "fast") asks.parts) n asks.output)
         (asks.seed_is k)) (asks.items_are k))
         ∙ ap Some (sym asks.is)),

@@ -9,8 +9,7 @@ use Rattle.clap.specs.Takes.{is_given}
 use Rattle.clap.specs.Walk.{Row, Rule, Text, arg_by_long, arg_by_short, first_of, has_row, is_empty, nothing_held, rows_after, with_default}
 use Rattle.clap.specs.Simple.{Shape}
 use Rattle.clap.specs.Faults.{built_fault, check_fault, default_fault, defaults_fault, given_default_fault}
-use Rattle.command_words.specs.Options.{flag_given}
-use Rattle.command_words.specs.CommandLines.{AreOnce, AreTexts, IsAmong, IsLine, Part, has_flag, names_in, value_in}
+use Rattle.command_words.specs.Prelude.{flag_given, AreOnce, AreTexts, IsAmong, IsLine, Part, has_flag, names_in, value_in}
 use Rattle.command_words.proofs.WordsFound.{HaveDefaults, HasDefault, defaults-kept, flag-found, flags-kept, given-found, name-found, name_at, parts-of, value-found, value_of_row}
 use Rattle.command_words.proofs.WordsTaken.{no-default, only, rows-found, rows_said, taken, takes}
 use Rattle.command_words.proofs.WordsRead.{Known, KnownFlag, NamesFit, Places, Table, built_help}

@@ -10,7 +10,7 @@ use Rattle.clap.proofs.CutLemmas.{Lacks}
 use Rattle.clap.proofs.LexerLemmas.{name_and_value-at, name_and_value-without}
 use Rattle.clap.specs.Lexer.{long_of, short_of}
 use Rattle.clap.specs.Walk.{Text}
-use Rattle.command_words.specs.CommandLines.{IsPlain}
+use Rattle.command_words.specs.Prelude.{IsPlain}
 
 -- ---- the text before `=`
 

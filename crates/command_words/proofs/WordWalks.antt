@@ -9,7 +9,7 @@ use Rattle.clap.specs.Walk.{Held, Row, Rule, Text, Walk, Waiting, idle, option, 
 use Rattle.clap.specs.Simple.{Shape, filled, with_index, new_rule}
 use Rattle.clap.specs.Faults.{walk_fault, turn_fault, settle_fault, react_fault}
 use Rattle.clap.specs.declared.builder.action.ArgAction.TheVariants.{SetTrue}
-use Rattle.command_words.specs.CommandLines.{IsPlain}
+use Rattle.command_words.specs.Prelude.{IsPlain}
 
 -- ---- words
 

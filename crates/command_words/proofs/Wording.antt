@@ -4,17 +4,15 @@ use Rattle.std.specs.Prelude.{option_and_then}
 use Rattle.std.specs.Str.Parse.{IsNumeral, without_leading_plus, digits_value}
 use Rattle.std.specs.Char.{is_ascii_digit}
 use Rattle.std.proofs.lemmas.Bool.{leb-true, ne_eqb}
-use Rattle.gr_base.specs.Numerals.{are_digits}
+use Rattle.gr_base.specs.Prelude.{are_digits}
 use Rattle.gr_base.proofs.Digits.{AllDigits-test}
 use Rattle.clap.proofs.WalkLemmas.{both}
 use Rattle.clap.specs.Words.{App, HasKind, Kinds, Row, Text, found_of, kind_of, matches_of, rows_of}
 use Rattle.clap.specs.declared.error.Error.{Error}
-use Rattle.clap.specs.declared.error.kind.ErrorKind.TheVariants as kind
 use Rattle.clap.specs.declared.parser.matches.ArgMatches.{ArgMatches}
 use Rattle.command_words.specs.declared.verbs.Verb.{Verb}
-use Rattle.command_words.specs.Options.{IsFound, asked_by, none_wrong, is_option_number, option_within}
-use Rattle.command_words.specs.VerbRows.{command_of}
-use Rattle.command_words.specs.Verbs.{Works, asked_for, asks_of, row_of}
+use Rattle.command_words.specs.Prelude.{IsFound, asked_by, none_wrong, is_option_number, option_within, command_of, Works, asked_for, asks_of, row_of}
+use Rattle.clap.specs.declared.error.kind.ErrorKind.TheVariants as kind
 
 -- an error that isn't want of memory says that something is wrong
 pub refused-wrong : (kinds : Kinds) (error : Error)

@@ -9,14 +9,13 @@ use Rattle.clap.specs.Takes.{is_given}
 use Rattle.clap.specs.Walk.{Row, Text, first_of, nothing_held, rows_after}
 use Rattle.clap.specs.Simple.{App, Shape, built, matches_of}
 use Rattle.clap.specs.Faults.{built_fault, check_fault, fault_of}
-use Rattle.clap.specs.declared.error.kind.ErrorKind.TheVariants as kind
-use Rattle.command_words.specs.Options.{asked_by, flag_given, none_wrong}
-use Rattle.command_words.specs.CommandLines.{AFlag, AName, AnOption, AreOnce, AreTexts, IsAmong, IsLine, Part, has_flag, names_in, value_in}
+use Rattle.command_words.specs.Prelude.{asked_by, flag_given, none_wrong, AFlag, AName, AnOption, AreOnce, AreTexts, IsAmong, IsLine, Part, has_flag, names_in, value_in}
 use Rattle.command_words.proofs.WordCommands.{Accepts, IsCommand, accepted, accepts, found-flag, found-name, found-value, found_rows, given-name, rows-accepted}
 use Rattle.command_words.proofs.WordsFound.{name_at}
 use Rattle.command_words.proofs.WordsTaken.{only}
 use Rattle.command_words.proofs.WordsRead.{NamesFit, same-text}
 use Rattle.command_words.proofs.WordsUsed.{AllDiffer, differ-at}
+use Rattle.clap.specs.declared.error.kind.ErrorKind.TheVariants as kind
 
 -- ---- a name for each place
 

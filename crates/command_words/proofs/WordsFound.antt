@@ -9,8 +9,7 @@ use Rattle.clap.specs.Takes.{is_given}
 use Rattle.clap.specs.Walk.{Row, Rule, Text, default_rows, first_of, has_row, more_values, reading_by, with_default}
 use Rattle.clap.specs.declared.parser.matches.ValueSource.TheVariants.{DefaultValue}
 use Rattle.clap.specs.declared.builder.value_parser.Reading.{Reading}
-use Rattle.command_words.specs.Options.{flag_given}
-use Rattle.command_words.specs.CommandLines.{AFlag, AName, AnOption, Apart, Behind, Ended, Flagged, IsAmong, IsLine, Joined, Named, Part, has_flag, names_in, value_in}
+use Rattle.command_words.specs.Prelude.{flag_given, AFlag, AName, AnOption, Apart, Behind, Ended, Flagged, IsAmong, IsLine, Joined, Named, Part, has_flag, names_in, value_in}
 use Rattle.command_words.proofs.WordsRead.{NamesFit, all_names}
 use Rattle.command_words.proofs.WordsUsed.{at-missing, row_with, rows_of_parts, text-is}
 use Rattle.command_words.proofs.WordWalks.{flag_rule}

@@ -10,7 +10,7 @@ use Rattle.clap.specs.Kinds.{Kinds, or_else}
 use Rattle.clap.specs.Walk.{Held, Row, Rule, Text, Walk, idle, option, reacted, settled, used, used_by_id, arg_by_long, arg_by_short, arg_by_index, arg_by_id}
 use Rattle.clap.specs.Simple.{Shape, filled, help_rule}
 use Rattle.clap.specs.Faults.{use_fault, react_fault, walk_fault}
-use Rattle.command_words.specs.CommandLines.{AFlag, AName, AnOption, Apart, Behind, Ended, Flagged, IsAmong, IsLine, IsPlain, Joined, Named, Part}
+use Rattle.command_words.specs.Prelude.{AFlag, AName, AnOption, Apart, Behind, Ended, Flagged, IsAmong, IsLine, IsPlain, Joined, Named, Part}
 use Rattle.command_words.proofs.WordLooks.{long-alone, long-joined}
 use Rattle.command_words.proofs.WordWalks.{Leads, apart, at, behind, dashed, flag_rule, flagged, given, hold, joined, last, led-last, led-wrong, name_rule, named, named_held, option_rule, or-assoc, or-nil, plain-word, settling, wrong}
 

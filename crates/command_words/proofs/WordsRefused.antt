@@ -10,7 +10,7 @@ use Rattle.clap.specs.Kinds.{Kinds, or_else}
 use Rattle.clap.specs.Walk.{Held, Row, Rule, Text, Walk, idle, option, is_pending, settled, arg_by_long, arg_by_short, arg_by_index, word_met}
 use Rattle.clap.specs.Simple.{Shape}
 use Rattle.clap.specs.Faults.{bundle_fault, bundle_step_fault, flag_word_fault, flags_fault, long_fault, other_fault, react_fault, short_fault, step_fault, stray_fault, turn_fault, use_fault, walk_fault}
-use Rattle.command_words.specs.CommandLines.{AFlag, AName, AnOption, Apart, AreTexts, Behind, Ended, Flagged, IsAmong, IsLine, IsPlain, Joined, Named, Part}
+use Rattle.command_words.specs.Prelude.{AFlag, AName, AnOption, Apart, AreTexts, Behind, Ended, Flagged, IsAmong, IsLine, IsPlain, Joined, Named, Part}
 use Rattle.command_words.proofs.WordLooks.{AtEquals, Cut, Dashes, Long, Looks, Plain, Short, ShortWord, Uncut, cut, first-flag, looks, short-word}
 use Rattle.command_words.proofs.WordsRead.{Known, NamesFit, Places, Table, all_names, built_help, names_held, pending-wrong, same-text}
 use Rattle.command_words.proofs.WordWalks.{Leads, PlainWord, apart, at, behind, both-none, dashed, flag_rule, flagged, given, hold, joined, last, led-wrong, name_rule, named, option_rule, plain-word, settles-first, settling, wrong}

@@ -5,7 +5,7 @@ use Rattle.clap.specs.Kinds.{Kinds, or_else}
 use Rattle.clap.specs.Walk.{Row, Rule, Text, has_row, idle, is_empty, nothing_held, rows_after, settled, walk, walk_from, with_default}
 use Rattle.clap.specs.Simple.{App, Shape, entered}
 use Rattle.clap.specs.Faults.{built_fault, check_fault, default_fault, defaults_fault, entered_fault, given_default_fault, walk_fault}
-use Rattle.command_words.specs.CommandLines.{AreTexts, IsLine, Part}
+use Rattle.command_words.specs.Prelude.{AreTexts, IsLine, Part}
 use Rattle.command_words.proofs.WordsRead.{NamesFit, Places, Table, Walks, uses, uses_rows, uses_wrong, walks-line}
 use Rattle.command_words.proofs.WordsRefused.{claims}
 use Rattle.command_words.proofs.WordWalks.{at, both-none, settling, wrong}

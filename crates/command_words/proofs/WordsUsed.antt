@@ -7,13 +7,13 @@ use Rattle.clap.specs.Lexer.{usize_max}
 use Rattle.clap.specs.Kinds.{Kinds, or_else}
 use Rattle.clap.specs.Walk.{Row, Text, at_row, has_row, more_values, reading_by, used, with_values, without}
 use Rattle.clap.specs.Simple.{Shape}
-use Rattle.clap.specs.Faults.{repeat_fault, use_fault}
-use Rattle.clap.specs.declared.error.kind.ErrorKind.TheVariants as kind
+use Rattle.clap.specs.Faults.{repeat_fault}
 use Rattle.clap.specs.declared.parser.matches.ValueSource.TheVariants.{CommandLine}
 use Rattle.clap.specs.declared.builder.value_parser.Reading.{Reading}
-use Rattle.command_words.specs.CommandLines.{AFlag, AName, AnOption, Apart, AreOnce, Behind, Ended, Flagged, IsAmong, IsLine, Joined, Named, Part}
+use Rattle.command_words.specs.Prelude.{AFlag, AName, AnOption, Apart, AreOnce, Behind, Ended, Flagged, IsAmong, IsLine, Joined, Named, Part}
 use Rattle.command_words.proofs.WordsRead.{NamesFit, all_names, same-text, uses, uses_rows, uses_wrong}
 use Rattle.command_words.proofs.WordWalks.{both-none, flag_rule, name_rule, option_rule}
+use Rattle.clap.specs.declared.error.kind.ErrorKind.TheVariants as kind
 
 -- ---- rows
 
@@ -89,20 +89,6 @@ module _ (s : Shape) (plain : s.args_override_self ≡ false) where
       → repeat_fault s.args_override_self id rows ≡ []
   fresh-repeat id rows none =
       ap (λ (b : Bool). cond (b && not s.args_override_self) (kind.ArgumentConflict ∷ []) []) none
-
-  name-fault : (id value : Text) (p : ℕ) (rows : List Row)
-      → use_fault s.args_override_self (name_rule id p) (value ∷ []) rows
-      ≡ or_else (repeat_fault s.args_override_self id rows) []
-  name-fault id value p rows = refl
-
-  option-fault : (id value : Text) (rows : List Row)
-      → use_fault s.args_override_self (option_rule id) (value ∷ []) rows
-      ≡ or_else (repeat_fault s.args_override_self id rows) []
-  option-fault id value rows = refl
-
-  flag-fault : (id : Text) (rows : List Row) → use_fault s.args_override_self (flag_rule id) [] rows
-      ≡ or_else (repeat_fault s.args_override_self id rows) []
-  flag-fault id rows = refl
 
   name-used : (id value : Text) (p : ℕ) (rows : List Row) → has_row id rows ≡ false
       → used (name_rule id p) (value ∷ []) rows ≡ rows ++ text_row id value ∷ []

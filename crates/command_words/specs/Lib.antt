@@ -7,3 +7,4 @@ pub mod Pairs
 pub mod Asks
 pub mod Verbs
 pub mod WordsAsk
+pub mod Prelude

@@ -18,40 +18,27 @@ name_of Bus = codes "bus"
 name_of Infer = codes "infer"
 
 abbrev pub options_of : Verb → List Text
-options_of Check = []
 options_of Trace = run_options
 options_of Run = run_options
-options_of Assemble = []
-options_of Disassemble = []
 options_of Evaluate = codes "turns" ∷ []
 options_of Compile = compile_options
 options_of Sample = codes "seed" ∷ []
 options_of Bus = run_options
-options_of Infer = []
+options_of other = []
 
 abbrev pub flags_of : Verb → List Text
-flags_of Check = []
 flags_of Trace = codes "paths" ∷ codes "recursive" ∷ []
 flags_of Run = codes "recursive" ∷ []
-flags_of Assemble = []
-flags_of Disassemble = []
 flags_of Evaluate = codes "procs" ∷ []
 flags_of Compile = codes "procs" ∷ codes "fast" ∷ []
 flags_of Sample = codes "fast" ∷ []
-flags_of Bus = []
-flags_of Infer = []
+flags_of other = []
 
 abbrev pub WritesFile : Verb → Type 0
 WritesFile Check = ⊥
 WritesFile Trace = ⊥
-WritesFile Run = Unit {0}
-WritesFile Assemble = Unit {0}
-WritesFile Disassemble = Unit {0}
-WritesFile Evaluate = Unit {0}
-WritesFile Compile = Unit {0}
-WritesFile Sample = Unit {0}
 WritesFile Bus = ⊥
-WritesFile Infer = Unit {0}
+WritesFile other = Unit {0}
 
 -- the words are a verb and, after it, these names and parts
 pub record Call (words : List Text) (verb : Verb) (names : List Text) (parts : List Part) : Type 0 where

@@ -1,6 +1,6 @@
 ghost use Rattle.std.specs.Prelude.{◌≡◌, ◌↔◌, ◌≤◌, IfOk, IfSome, IsTrue, List, ℕ, true};
 ghost use Rattle.clap.specs.Words.{all_of, app_of, first_of, found_of, is_simple, is_simple_and_free, kind_of, rows_of};
-ghost use Rattle.gr_base.specs.Lists.{Within};
+ghost use Rattle.gr_base.specs.Prelude.{Within};
 ghost use Rattle.command_words.specs.Options.{IsFound, block_log_given, flag_given, items_given, number_given, option_within, seed_given, texts};
 ghost use Rattle.std.specs.Option.{option_map};
 

@@ -1,7 +1,7 @@
 ghost use Rattle.std.specs.Prelude.{◌≡◌, ◌<◌, ◌≤◌, IfSome};
 ghost use Rattle.std.specs.Option.{option_map};
-ghost use Rattle.gr_base.specs.Lists.{Within};
-ghost use Rattle.lt_isa.specs.Ranges.{ProfileFits};
+ghost use Rattle.gr_base.specs.Prelude.{Within};
+ghost use Rattle.lt_isa.specs.Prelude.{ProfileFits};
 ghost use Rattle.command_words.specs.Options.{option_within};
 ghost use Rattle.command_words.specs.Windows.{WindowFits, at_colon, window_given, window_in, window_in_order, window_of_numbers, windowed_profile};
 

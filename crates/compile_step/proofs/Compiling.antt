@@ -1,23 +1,18 @@
 -- From a program and its object file to the text that is printed.
 use Rattle.std.proofs.Common.{◌≡◌, Bool, inl, inr, ℕ, ◌≤◌, List, length, Result, Ok, Err, IfOk, OnOk, refl, subst}
 use Rattle.lt_isa.specs.declared.profiles.Latencies.{Latencies}
-use Rattle.lt_isa.specs.Object.{Parts, usual_latencies}
-use Rattle.lt_isa.specs.Ranges.{IsInRange}
-use Rattle.object_file.specs.Spelling.{spelling}
-use Rattle.src_tree.specs.Trees.{Source}
-use Rattle.trace_patterns.specs.Accepts.{Accepts}
-use Rattle.block_cache_gen.specs.StoredWords.{stored_words}
+use Rattle.lt_isa.specs.Prelude.{Parts, usual_latencies, IsInRange}
+use Rattle.object_file.specs.Prelude.{spelling}
+use Rattle.src_tree.specs.Prelude.{Source}
+use Rattle.trace_patterns.specs.Prelude.{Accepts}
+use Rattle.block_cache_gen.specs.Prelude.{stored_words}
 use Rattle.compiled_objects.specs.declared.errors.CompileError.{CompileError}
-use Rattle.compiled_objects.specs.declared.errors.CompileError.TheVariants as room
-use Rattle.compiled_objects.specs.Compiles.{IsFor, stores_by}
-use Rattle.compiled_objects.specs.Implements.{Implements}
+use Rattle.compiled_objects.specs.Prelude.{IsFor, stores_by, Implements}
 use Rattle.call_replies.specs.declared.replies.Verdict.TheVariants.{BadSource}
-use Rattle.call_replies.specs.Texts.{Said}
-use Rattle.call_steps.specs.Questions.{WhichCompiled}
-use Rattle.call_steps.specs.Compiled.{HasLayoutFor, HasRoom, IsCompiledTo, LacksRoom, held_for, most_code, plan_for, source_for, room_fault}
+use Rattle.call_replies.specs.Prelude.{Said}
+use Rattle.call_steps.specs.Prelude.{WhichCompiled, HasLayoutFor, HasRoom, IsCompiledTo, LacksRoom, held_for, most_code, plan_for, source_for, room_fault, on_compiled, EndsWorkWith, SaysSource}
 use Rattle.call_steps.specs.declared.targets.Target.{Target}
-use Rattle.call_steps.specs.Compile.{on_compiled}
-use Rattle.call_steps.specs.Progress.{EndsWorkWith, SaysSource}
+use Rattle.compiled_objects.specs.declared.errors.CompileError.TheVariants as room
 
 -- ---- the usual machine
 

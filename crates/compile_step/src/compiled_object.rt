@@ -1,13 +1,10 @@
 //! The object of a program, or the reply if it has none.
 ghost use Rattle.std.specs.Prelude.{IfErr, IfOk, List, ℕ, ◌≡◌};
-ghost use Rattle.lt_isa.specs.Ranges.{IsInRange, ProfileFits};
-ghost use Rattle.object_file.specs.Spelling.{spelling};
-ghost use Rattle.src_tree.specs.Trees.{source_of};
-ghost use Rattle.call_steps.specs.Compile.{on_compiled};
-ghost use Rattle.call_steps.specs.Compiled.{IsCompiledTo, LacksRoom, room_fault};
-ghost use Rattle.call_steps.specs.Progress.{EndsWorkWith, SaysSource};
-ghost use Rattle.call_steps.specs.Questions.{WhichCompiled};
-ghost use Rattle.call_replies.specs.Texts.{said};
+ghost use Rattle.lt_isa.specs.Prelude.{IsInRange, ProfileFits};
+ghost use Rattle.object_file.specs.Prelude.{spelling};
+ghost use Rattle.src_tree.specs.Prelude.{source_of};
+ghost use Rattle.call_steps.specs.Prelude.{on_compiled, IsCompiledTo, LacksRoom, room_fault, EndsWorkWith, SaysSource, WhichCompiled};
+ghost use Rattle.call_replies.specs.Prelude.{said};
 
 use call_replies::replies::{Reply, Verdict};
 use call_replies::source_faults::SourceFault;

@@ -1,17 +1,15 @@
 -- The plan of memory of a program that is compiled with `--fast` is sound, and slot 1 holds a block of encrypted memory.
 use Rattle.std.proofs.Common.{◌≡◌, ℕ, Some, refl, arith}
-use Rattle.gr_base.specs.Lists.{Within}
-use Rattle.src_tree.specs.Limits.{IsWithinLimits}
-use Rattle.src_tree.specs.Trees.{Source}
+use Rattle.gr_base.specs.Prelude.{Within}
+use Rattle.src_tree.specs.Prelude.{IsWithinLimits, Source}
 use Rattle.scratch_alloc.specs.declared.plans.Pin.{Pin}
-use Rattle.scratch_alloc.specs.Plans.{IsSoundPlan, pin_of_slot}
-use Rattle.resident_alloc.specs.ResidentFits.{ResidentsFit}
-use Rattle.resident_alloc.specs.ResidentPlan.{resident_plan}
+use Rattle.scratch_alloc.specs.Prelude.{IsSoundPlan, pin_of_slot}
+use Rattle.resident_alloc.specs.Prelude.{ResidentsFit, resident_plan}
 use Rattle.resident_alloc.proofs.SoundPlan.{resident_sound}
-use Rattle.spread_alloc.specs.Spread.{spread_plan}
+use Rattle.spread_alloc.specs.Prelude.{spread_plan}
 use Rattle.spread_alloc.proofs.KeptPins.{spread-pins}
 use Rattle.spread_alloc.proofs.SoundSpread.{spread_plan_sound}
-use Rattle.compiled_objects.specs.FastLayout.{fast_plan}
+use Rattle.compiled_objects.specs.Prelude.{fast_plan}
 
 pub fast-is : (p : Source) (w : ℕ) → spread_plan w (resident_plan p w) ≡ fast_plan p w
 unfolding fast_plan

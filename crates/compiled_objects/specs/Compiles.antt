@@ -9,7 +9,6 @@ use Rattle.lt_isa.specs.Limits.{most_latency}
 use Rattle.lt_isa.specs.Object.{Parts, is_ram, is_eram, latency_of}
 use Rattle.src_tree.specs.Trees.{Source}
 use Rattle.bank_alloc.specs.Fits.{Refuses}
-use Rattle.bank_alloc.specs.declared.places.PlaceError.TheVariants as place
 use Rattle.scratch_alloc.specs.Plans.{Plan, standard_plan}
 use Rattle.source_folding.specs.Folded.{folded_source}
 use Rattle.resident_alloc.specs.ResidentFits.{ResidentsRefuse}
@@ -23,6 +22,7 @@ use Rattle.compiled_objects.specs.declared.errors.CompileError.TheVariants.{TooM
 use Rattle.held_registers.specs.declared.registers.Held.TheVariants.{SecretZero, Number, Scalar}
 use Rattle.scalar_ranges.specs.Known.{nothing_known}
 use Rattle.bank_alloc.specs.declared.places.PlaceError.{PlaceError}
+use Rattle.bank_alloc.specs.declared.places.PlaceError.TheVariants as place
 
 -- latencies in their ranges
 pub record LatenciesFit (l : Latencies) : Type 0 where

@@ -3,3 +3,4 @@ pub mod Compiles
 pub mod Implements
 pub mod HeldNumbers
 pub mod AgreeingStores
+pub mod Prelude

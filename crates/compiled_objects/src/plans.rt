@@ -1,10 +1,8 @@
 ghost use Rattle.std.specs.Prelude.{◌≡◌, IfErr, IfOk, OnOk};
-ghost use Rattle.gr_base.specs.Lists.{Within};
-ghost use Rattle.src_tree.specs.Limits.{IsWithinLimits};
-ghost use Rattle.src_tree.specs.Trees.{source_of};
-ghost use Rattle.src_tree.specs.Typing.{IsTyped};
-ghost use Rattle.scratch_alloc.specs.Plans.{plan_from};
-ghost use Rattle.resident_alloc.specs.ResidentFits.{ResidentsFit, ResidentsRefuse};
+ghost use Rattle.gr_base.specs.Prelude.{Within};
+ghost use Rattle.src_tree.specs.Prelude.{IsWithinLimits, source_of, IsTyped};
+ghost use Rattle.scratch_alloc.specs.Prelude.{plan_from};
+ghost use Rattle.resident_alloc.specs.Prelude.{ResidentsFit, ResidentsRefuse};
 ghost use Rattle.compiled_objects.specs.FastLayout.{fast_plan};
 
 use bank_alloc::PlaceError;

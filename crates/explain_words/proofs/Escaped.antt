@@ -2,8 +2,8 @@
 use Rattle.std.proofs.Common.{ℕ, List, [], ◌∷◌, ◌++◌, Option, Some, None, flat_map, sym, subst}
 use Rattle.std.proofs.lemmas.List.{append-nil, flat_map_more}
 use Rattle.gr_base.proofs.Added.{Adds-then}
-use Rattle.gr_base.specs.Added.{Adds}
-use Rattle.explain_words.specs.EscapedNames.{escaped_char}
+use Rattle.gr_base.specs.Prelude.{Adds}
+use Rattle.explain_words.specs.Prelude.{escaped_char}
 
 pub nothing_added : (text : Option (List ℕ)) → Adds text text (flat_map escaped_char [])
 nothing_added None = tt

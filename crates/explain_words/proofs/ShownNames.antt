@@ -4,10 +4,10 @@ use Rattle.std.proofs.lemmas.Bool.{cases_lt}
 use Rattle.std.proofs.lemmas.List.Quantifiers.{all_pairs_push}
 use Rattle.std.proofs.lemmas.List.{get_or_push, length_push, get_or_append_left, get_or_default}
 use Rattle.src_tree.specs.declared.trees.Decl.{Decl}
-use Rattle.src_tree.specs.Typing.{DeclaredOnce}
+use Rattle.src_tree.specs.Prelude.{DeclaredOnce}
 use Rattle.src_tree.proofs.NamesDiffer.{names_differ}
-use Rattle.src_procs.specs.Inlined.{is_hidden}
-use Rattle.explain_words.specs.ShownNames.{IsNew}
+use Rattle.src_procs.specs.Prelude.{is_hidden}
+use Rattle.explain_words.specs.Prelude.{IsNew}
 
 -- The names of the first k variables. A variable that a call adds has a name that isn't declared.
 pub record ShownBelow (decls : List Decl) (k : ℕ) (names : List (List ℕ)) : Type 0 where

@@ -1,7 +1,7 @@
 //! A call of the program that met a fault: which of its files are read again, and the words about each.
 
 ghost use Rattle.std.specs.Prelude.{◌≡◌, ◌≤◌, true, IfOk, IfSome, All};
-ghost use Rattle.gr_word.specs.Fitting.{AreVariables};
+ghost use Rattle.gr_word.specs.Prelude.{AreVariables};
 ghost use Rattle.explain_words.specs.FaultyFiles.{MayHaveFault, MayHaveWarnings};
 ghost use Rattle.explain_words.specs.Plain.{IsPlain};
 

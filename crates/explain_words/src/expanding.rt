@@ -1,7 +1,7 @@
 //! The program without calls that a file with procedures is, as people read it.
 
 ghost use Rattle.std.specs.Prelude.{IfOk};
-ghost use Rattle.src_tree.specs.Typing.{DeclaredOnce};
+ghost use Rattle.src_tree.specs.Prelude.{DeclaredOnce};
 ghost use Rattle.explain_words.specs.ShownNames.{AreShown};
 
 use crate::shown_names::{number_in, shown_names};

@@ -1,7 +1,7 @@
 //! Why a text gives no inputs for some variables.
 
 ghost use Rattle.std.specs.Prelude.{IfSome};
-ghost use Rattle.gr_word.specs.Fitting.{AreVariables};
+ghost use Rattle.gr_word.specs.Prelude.{AreVariables};
 
 use crate::calls::Kind;
 use crate::json_faults::{JsonFault, json_fault, unread_at};

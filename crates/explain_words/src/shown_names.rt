@@ -1,7 +1,7 @@
 //! The names of variables for people. A variable that a call adds is named after its procedure and its parameter or local.
 
 ghost use Rattle.std.specs.Prelude.{◌≡◌, false, IfOk};
-ghost use Rattle.src_tree.specs.Typing.{DeclaredOnce};
+ghost use Rattle.src_tree.specs.Prelude.{DeclaredOnce};
 ghost use Rattle.explain_words.specs.ShownNames.{AreShown, IsNew};
 
 use crate::procedures::{Counted, Frame, Place, Procedures};

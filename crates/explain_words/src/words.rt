@@ -1,7 +1,7 @@
 ghost use Rattle.std.specs.Prelude.{◌≡◌, ◌<◌, [], ◌∷◌, ◌++◌, map, Some, IfOk, All};
 ghost use Rattle.std.specs.Char.{digit_char};
 ghost use Rattle.std.specs.Option.{option_map};
-ghost use Rattle.gr_base.specs.Added.{Adds};
+ghost use Rattle.gr_base.specs.Prelude.{Adds};
 ghost use Rattle.explain_words.specs.EscapedNames.{escaped_char, escaped_name, hex_digits};
 ghost use Rattle.explain_words.specs.Plain.{IsPlain, shown_byte};
 

@@ -4,13 +4,10 @@ use Rattle.std.specs.Option.{option_or}
 use Rattle.gr_word.specs.declared.variables.Label.{Label}
 use Rattle.gr_word.specs.declared.variables.Shape.{Shape}
 use Rattle.gr_word.specs.declared.variables.Shape.TheVariants.{Scalar, Array}
-use Rattle.src_tree.specs.Trees.{Tree, Number, Variable, Element, Operation, SetVariable, SetElement, Choice, Loop}
+use Rattle.src_tree.specs.Prelude.{Tree, Number, Variable, Element, Operation, SetVariable, SetElement, Choice, Loop, Context, higher, secret_label, label_at, label_of, label_of_test, shown_place, shown_number, where_true, same_shape, kind_fault, use_fault, names_fault, leaks, has_leaking_index, typing_fault, height_fault, too_high}
 use Rattle.src_tree.specs.declared.faults.TypeError.{TypeError}
 use Rattle.src_tree.specs.declared.faults.TypeError.TheVariants.{SecretIndexOfPublic, FlowToPublic, SecretGuardOfLoop, LoopInSecret, Limit, Undeclared, WrongShape}
 use Rattle.src_tree.specs.declared.faults.Which.TheVariants.{Height}
-use Rattle.src_tree.specs.Contexts.{Context}
-use Rattle.src_tree.specs.Labels.{higher, secret_label, label_at, label_of, label_of_test}
-use Rattle.src_tree.specs.FirstFault.{shown_place, shown_number, where_true, same_shape, kind_fault, use_fault, names_fault, leaks, has_leaking_index, typing_fault, height_fault, too_high}
 use Rattle.flow_types.proofs.Walked.{IsCapped}
 
 same_place : (n : ℕ) → shown_place (shown_number n) ≡ shown_place n

@@ -6,14 +6,11 @@ use Rattle.gr_word.specs.declared.variables.Want.{Want}
 use Rattle.std.proofs.lemmas.List.Elements.{All-map}
 use Rattle.gr_word.specs.declared.variables.Shape.{Shape}
 use Rattle.gr_word.specs.declared.variables.Shape.TheVariants.{Scalar, Array}
-use Rattle.gr_word.specs.Fitting.{AreDistinct, AreVariables}
+use Rattle.gr_word.specs.Prelude.{AreDistinct, AreVariables}
 use Rattle.src_tree.specs.declared.trees.Decl.{Decl}
-use Rattle.src_tree.specs.Trees.{Source}
-use Rattle.src_tree.specs.Contexts.{shape_of}
-use Rattle.src_tree.specs.Limits.{words_of_length}
-use Rattle.src_tree.specs.Typing.{IsTyped}
+use Rattle.src_tree.specs.Prelude.{Source, shape_of, words_of_length, IsTyped}
 use Rattle.src_tree.proofs.NamesDiffer.{names_differ}
-use Rattle.flow_types.specs.Wants.{declared_want, declared_wants}
+use Rattle.flow_types.specs.Prelude.{declared_want, declared_wants}
 
 distinct-from : (ds : List Decl)
     → ((i j : ℕ) (d : Decl) → i < j → j < length ds → (get_or ds i d).name ≢ (get_or ds j d).name)

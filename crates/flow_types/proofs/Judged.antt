@@ -4,21 +4,17 @@ use Rattle.std.proofs.Common.{◌≡◌, ℕ, ◌≤◌, nat_lt, Bool, true, fal
 use Rattle.std.specs.Option.{option_or}
 use Rattle.std.proofs.lemmas.Bool.{ltb-true, ltb-false, lt-ltb, le-ltb}
 use Rattle.gr_word.specs.declared.variables.Label.TheVariants.{Public}
-use Rattle.src_tree.specs.Trees.{Source}
+use Rattle.src_tree.specs.Prelude.{Source, Context, context_of, max_weight, block_weight, weight_of, shown_number, where_true, twice_fault, typing_fault, height_fault, statements_fault, variables_fault, length_fault, words_fault, weight_fault, first_fault}
 use Rattle.src_tree.specs.declared.faults.TypeError.{TypeError}
-use Rattle.src_tree.specs.declared.faults.TypeError.TheVariants as error
 use Rattle.src_tree.specs.declared.faults.Which.TheVariants.{Weight}
-use Rattle.src_tree.specs.Contexts.{Context, context_of}
-use Rattle.src_tree.specs.Limits.{max_weight, block_weight, weight_of}
-use Rattle.src_tree.specs.FirstFault.{shown_number, where_true, twice_fault, typing_fault, height_fault, statements_fault, variables_fault, length_fault, words_fault, weight_fault, first_fault}
-use Rattle.flow_types.specs.Refusals.{ExplainsProgram}
-use Rattle.flow_types.specs.Walk.{nothing_known, names_gathered, IsRefusal, fault_of, walk_block, sizes_fault, found}
+use Rattle.flow_types.specs.Prelude.{ExplainsProgram, nothing_known, names_gathered, IsRefusal, fault_of, walk_block, sizes_fault, found}
 use Rattle.src_tree.proofs.Chains.{or_assoc}
 use Rattle.src_tree.proofs.Faultless.{behind, fine}
 use Rattle.src_tree.proofs.FirstFaults.{cause}
 use Rattle.flow_types.proofs.Walked.{first_walked}
 use Rattle.flow_types.proofs.Capped.{typing_capped, height_capped, same_number}
 use Rattle.flow_types.proofs.KnownNames.{Says, gathers}
+use Rattle.src_tree.specs.declared.faults.TypeError.TheVariants as error
 
 said : (p : Source) → Says (twice_fault [] p.decls) p.decls (names_gathered nothing_known 0 p.decls)
 said p = gathers [] p.decls

@@ -12,10 +12,9 @@ use Rattle.gr_word.specs.declared.variables.Shape.{Shape}
 use Rattle.src_tree.specs.declared.trees.Decl.{Decl}
 use Rattle.src_tree.specs.declared.faults.TypeError.{TypeError}
 use Rattle.src_tree.specs.declared.faults.TypeError.TheVariants.{TwiceDeclared}
-use Rattle.src_tree.specs.Contexts.{Context, label_and_shape, context_of}
-use Rattle.src_tree.specs.FirstFault.{shown_place, where_true, twice_fault}
-use Rattle.gr_base.specs.NameMaps.{found_under}
-use Rattle.flow_types.specs.Walk.{with_name, names_gathered}
+use Rattle.src_tree.specs.Prelude.{Context, label_and_shape, context_of, shown_place, where_true, twice_fault}
+use Rattle.gr_base.specs.Prelude.{found_under}
+use Rattle.flow_types.specs.Prelude.{with_name, names_gathered}
 use Rattle.src_tree.proofs.Contexts.{declared_last}
 use Rattle.src_tree.proofs.DeclaredOnce.{none_of}
 

@@ -5,14 +5,9 @@ use Rattle.gr_word.specs.declared.variables.Label.{Label}
 use Rattle.gr_word.specs.declared.variables.Label.TheVariants.{Public}
 use Rattle.gr_word.specs.declared.variables.Shape.{Shape}
 use Rattle.gr_word.specs.declared.variables.Shape.TheVariants.{Scalar, Array}
-use Rattle.src_tree.specs.Trees.{Tree, Number, Variable, Element, Operation, Test, Statement, SetVariable, SetElement, Choice, Loop, Block, Nothing, Then, Source}
+use Rattle.src_tree.specs.Prelude.{Tree, Number, Variable, Element, Operation, Test, Statement, SetVariable, SetElement, Choice, Loop, Block, Nothing, Then, Source, Context, higher, inside, secret_label, label_at, label_of, label_of_test, shown_place, where_true, same_shape, kind_fault, use_fault, names_fault, guard_fault, loop_fault, flow_fault, leaks, has_leaking_index, typing_fault, height_fault, too_high, weight_fault, count_of, block_count, statement_fault, block_fault}
 use Rattle.src_tree.specs.declared.faults.TypeError.TheVariants.{SecretIndexOfPublic, FlowToPublic, SecretGuardOfLoop, LoopInSecret}
-use Rattle.src_tree.specs.Contexts.{Context}
-use Rattle.src_tree.specs.Labels.{higher, inside, secret_label, label_at, label_of, label_of_test}
-use Rattle.src_tree.specs.FirstFault.{shown_place, where_true, same_shape, kind_fault, use_fault, names_fault, guard_fault, loop_fault, flow_fault, leaks, has_leaking_index, typing_fault, height_fault, too_high, weight_fault}
-use Rattle.src_tree.specs.PartByPart.{count_of, block_count, statement_fault, block_fault}
-use Rattle.flow_types.specs.Surveys.{has_other_shape, is_wrong, is_faulty, is_faulty_test, is_faulty_statement, is_faulty_block}
-use Rattle.flow_types.specs.Walk.{fault_of, walk_block, sizes_fault, found}
+use Rattle.flow_types.specs.Prelude.{has_other_shape, is_wrong, is_faulty, is_faulty_test, is_faulty_statement, is_faulty_block, fault_of, walk_block, sizes_fault, found}
 use Rattle.src_tree.proofs.Chains.{Neither, chained, no_fault, both_false, neither_true}
 use Rattle.flow_types.proofs.Walked.{fault_walked}
 use Rattle.flow_types.proofs.Capped.{typing_capped, height_capped}

@@ -1,16 +1,11 @@
 -- The walk over the statements meets the first error among them, for any kind of error.
 use Rattle.std.proofs.Common.{◌≡◌, ℕ, ◌+◌, Option, Some, None, Result, Ok, refl, ap, ◌∙◌, arith}
 use Rattle.std.specs.Option.{option_or}
-use Rattle.gr_base.specs.Results.{◌>>=◌}
+use Rattle.gr_base.specs.Prelude.{◌>>=◌}
 use Rattle.gr_word.specs.declared.variables.Label.{Label}
-use Rattle.src_tree.specs.Trees.{Statement, SetVariable, SetElement, Choice, Loop, Block, Nothing, Then}
+use Rattle.src_tree.specs.Prelude.{Statement, SetVariable, SetElement, Choice, Loop, Block, Nothing, Then, Context, inside, StatementFault, first_among, shown_number, in_order, count_of, block_count, statement_fault, block_fault}
 use Rattle.src_tree.specs.declared.faults.TypeError.{TypeError}
-use Rattle.src_tree.specs.Contexts.{Context}
-use Rattle.src_tree.specs.Labels.{inside}
-use Rattle.src_tree.specs.FirstFault.{StatementFault, first_among, shown_number}
-use Rattle.src_tree.specs.Statements.{in_order}
-use Rattle.src_tree.specs.PartByPart.{count_of, block_count, statement_fault, block_fault}
-use Rattle.flow_types.specs.Walk.{finish, fault_of, walk_statement, walk_block}
+use Rattle.flow_types.specs.Prelude.{finish, fault_of, walk_statement, walk_block}
 use Rattle.src_tree.proofs.InOrder.{block_first}
 
 -- an error depends on a statement's number only up to 2^64 - 1

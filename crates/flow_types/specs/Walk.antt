@@ -11,10 +11,10 @@ use Rattle.src_tree.specs.Trees.{Statement, SetVariable, SetElement, Choice, Loo
 use Rattle.src_tree.specs.declared.faults.TypeError.{TypeError}
 use Rattle.src_tree.specs.declared.faults.TypeError.TheVariants.{TwiceDeclared, Memory}
 use Rattle.flow_types.specs.declared.walks.Question.{Question}
-use Rattle.flow_types.specs.declared.walks.Question.TheVariants as question
 use Rattle.src_tree.specs.Contexts.{Context, label_and_shape}
 use Rattle.src_tree.specs.Labels.{inside}
 use Rattle.src_tree.specs.FirstFault.{StatementFault, shown_place, shown_number, typing_fault, height_fault, variables_fault, length_fault, words_fault, weight_fault}
+use Rattle.flow_types.specs.declared.walks.Question.TheVariants as question
 
 abbrev pub nothing_known : Context
 nothing_known name = None

@@ -1,8 +1,7 @@
 ghost use Rattle.std.specs.Prelude.{◌≡◌, ◌+◌, List, [], Some, None, Ok, Err, IfOk, IfErr, OnOk, length};
 ghost use Rattle.src_tree.specs.declared.faults.TypeError.TheVariants.{Memory};
-ghost use Rattle.src_tree.specs.Limits.{words_of_length, words_of};
-ghost use Rattle.src_tree.specs.FirstFault.{length_fits, length_fault, words_fault, variables_fault};
-ghost use Rattle.gr_base.specs.NameMaps.{found_under};
+ghost use Rattle.src_tree.specs.Prelude.{words_of_length, words_of, length_fits, length_fault, words_fault, variables_fault};
+ghost use Rattle.gr_base.specs.Prelude.{found_under};
 ghost use Rattle.flow_types.specs.Walk.{with_name, nothing_known, names_gathered, IsRefusal};
 
 use crate::names::place;

@@ -1,8 +1,6 @@
 ghost use Rattle.std.specs.Prelude.{◌≡◌, ◌||◌, ◌-◌, ◌^◌, min};
-ghost use Rattle.src_tree.specs.Labels.{higher, inside, secret_label, label_of, label_of_test};
-ghost use Rattle.src_tree.specs.FirstFault.{shown_place, same_shape, leaks, use_fault, names_fault, has_leaking_index};
-ghost use Rattle.gr_base.specs.NameMaps.{found_under};
-ghost use Rattle.src_tree.specs.Trees.{expr_tree, test_of};
+ghost use Rattle.src_tree.specs.Prelude.{higher, inside, secret_label, label_of, label_of_test, shown_place, same_shape, leaks, use_fault, names_fault, has_leaking_index, expr_tree, test_of};
+ghost use Rattle.gr_base.specs.Prelude.{found_under};
 
 use gr_word::{Label, Shape};
 use src_tree::{Expr, Guard, Names, TypeError, higher, kind_at, label_at};

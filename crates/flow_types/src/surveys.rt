@@ -1,26 +1,8 @@
 ghost use Rattle.std.specs.Prelude.{◌≡◌, ◌||◌, ◌+◌, ◌-◌, ◌^◌, max, min};
-ghost use Rattle.gr_base.specs.NameMaps.{found_under};
+ghost use Rattle.gr_base.specs.Prelude.{found_under};
 ghost use Rattle.gr_word.specs.declared.variables.Shape.TheVariants.{Array};
-ghost use Rattle.src_tree.specs.FirstFault.{leaks};
-ghost use Rattle.src_tree.specs.Heights.{height_of};
-ghost use Rattle.src_tree.specs.Labels.{higher, label_of, label_of_test, label_or_public};
-ghost use Rattle.src_tree.specs.Limits.{tree_weight, test_weight, parts_weight, statement_weight, block_weight};
-ghost use Rattle.src_tree.specs.Trees.{
-  SetVariable,
-  SetElement,
-  expr_tree,
-  test_of,
-  statement_of,
-  block_of_all,
-};
-ghost use Rattle.flow_types.specs.Surveys.{
-  has_other_shape,
-  is_wrong,
-  is_faulty,
-  is_faulty_test,
-  is_faulty_statement,
-  is_faulty_block,
-};
+ghost use Rattle.src_tree.specs.Prelude.{leaks, height_of, higher, label_of, label_of_test, label_or_public, tree_weight, test_weight, parts_weight, statement_weight, block_weight, SetVariable, SetElement, expr_tree, test_of, statement_of, block_of_all};
+ghost use Rattle.flow_types.specs.Surveys.{has_other_shape, is_wrong, is_faulty, is_faulty_test, is_faulty_statement, is_faulty_block};
 
 use crate::names::{is_secret, leaks, same_shape};
 use crate::walks::MAX_HEIGHT;

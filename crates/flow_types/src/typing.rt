@@ -1,14 +1,11 @@
 ghost use Rattle.std.specs.Prelude.{◌≡◌, Some, None, Ok, Err, IfOk, IfErr, OnOk};
-ghost use Rattle.gr_word.specs.Fitting.{AreVariables};
-ghost use Rattle.src_tree.specs.Trees.{source_of};
-ghost use Rattle.src_tree.specs.Typing.{IsTyped};
-ghost use Rattle.src_tree.specs.Limits.{weight_of, IsWithinLimits};
-ghost use Rattle.src_tree.specs.FirstFault.{first_fault, weight_fault};
+ghost use Rattle.gr_word.specs.Prelude.{AreVariables};
+ghost use Rattle.src_tree.specs.Prelude.{source_of, IsTyped, weight_of, IsWithinLimits, first_fault, weight_fault};
 ghost use Rattle.flow_types.specs.Refusals.{ExplainsProgram};
 ghost use Rattle.flow_types.specs.Wants.{declared_wants};
 ghost use Rattle.gr_word.specs.declared.variables.Label.TheVariants.{Public};
 ghost use Rattle.flow_types.specs.Surveys.{is_faulty_block};
-ghost use Rattle.gr_base.specs.NameMaps.{found_under};
+ghost use Rattle.gr_base.specs.Prelude.{found_under};
 ghost use Rattle.flow_types.specs.Walk.{fault_of, sizes_fault, found};
 
 use crate::declarations::{gather, length_fault, variables_fault, words_fault};

@@ -1,27 +1,9 @@
 ghost use Rattle.std.specs.Prelude.{◌≡◌, ◌+◌};
 ghost use Rattle.std.specs.Option.{option_or};
 ghost use Rattle.gr_word.specs.declared.variables.Label.TheVariants.{Public};
-ghost use Rattle.src_tree.specs.FirstFault.{
-  where_true,
-  names_fault,
-  flow_fault,
-  guard_fault,
-  loop_fault,
-  typing_fault,
-  height_fault,
-  too_high,
-};
-ghost use Rattle.gr_base.specs.NameMaps.{found_under};
+ghost use Rattle.src_tree.specs.Prelude.{where_true, names_fault, flow_fault, guard_fault, loop_fault, typing_fault, height_fault, too_high, SetVariable, SetElement, Element, expr_tree, test_of, statement_of, block_of_all};
+ghost use Rattle.gr_base.specs.Prelude.{found_under};
 ghost use Rattle.flow_types.specs.Walk.{cause_of, finish, walk_statement, walk_block};
-ghost use Rattle.src_tree.specs.Trees.{
-  SetVariable,
-  SetElement,
-  Element,
-  expr_tree,
-  test_of,
-  statement_of,
-  block_of_all,
-};
 
 use crate::names::{
     indexed, inside, is_secret, leaks, look, look_at_guard, names_fault, place, use_fault,

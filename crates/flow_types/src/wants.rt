@@ -1,6 +1,6 @@
 ghost use Rattle.std.specs.Prelude.{◌≡◌, IfOk};
 ghost use Rattle.std.specs.List.{AllByRecursion};
-ghost use Rattle.src_tree.specs.Limits.{LengthFits};
+ghost use Rattle.src_tree.specs.Prelude.{LengthFits};
 ghost use Rattle.flow_types.specs.Wants.{declared_want, declared_wants};
 
 use crate::declarations::words_in;

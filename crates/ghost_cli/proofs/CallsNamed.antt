@@ -3,47 +3,28 @@ use Rattle.std.proofs.Common.{◌≡◌, ◌⊎◌, inl, inr, ℕ, ◌+◌, ℤ,
 use Rattle.std.specs.Prelude.{nat_lt}
 use Rattle.std.specs.Option.{option_map}
 use Rattle.std.proofs.lemmas.Option.{same_Some}
-use Rattle.gr_base.specs.Added.{Adds}
-use Rattle.gr_outside.specs.Shelf.{read_of}
+use Rattle.gr_base.specs.Prelude.{Adds}
+use Rattle.gr_outside.specs.Prelude.{read_of}
 use Rattle.gr_word.specs.declared.variables.Want.{Want}
-use Rattle.lt_isa.specs.Object.{Parts}
-use Rattle.src_tree.specs.Trees.{Source}
+use Rattle.lt_isa.specs.Prelude.{Parts}
+use Rattle.src_tree.specs.Prelude.{Source}
 use Rattle.trace_patterns.specs.declared.reasons.Reason.{Reason}
 use Rattle.bus_arbiter.specs.declared.errors.BusError.{BusError}
-use Rattle.bus_arbiter.specs.Refusals.{refusal}
-use Rattle.bus_arbiter.specs.Shares.{share_of}
+use Rattle.bus_arbiter.specs.Prelude.{refusal, share_of}
 use Rattle.note_infer.specs.declared.faults.InferError.{InferError}
 use Rattle.call_replies.specs.declared.replies.Verdict.{Verdict}
 use Rattle.call_replies.specs.declared.replies.Done.{Done}
 use Rattle.call_replies.specs.declared.source_faults.SourceFault.{SourceFault}
-use Rattle.command_words.specs.CommandLines.{AreTexts, IsAmong, Part, Says, Text}
-use Rattle.command_words.specs.Pairs.{Pair, in_pairs, pairs_of}
-use Rattle.command_words.specs.VerbLines.{flags_of, name_of, options_of}
-use Rattle.command_words.specs.WordsAsk.{verb_names}
+use Rattle.command_words.specs.Prelude.{AreTexts, IsAmong, Part, Says, Text, Pair, in_pairs, pairs_of, flags_of, name_of, options_of, verb_names, texts}
 use Rattle.command_words.specs.declared.verbs.Verb.{Verb}
 use Rattle.command_words.specs.declared.verbs.Verb.TheVariants.{Assemble, Bus, Check, Compile, Disassemble, Evaluate, Infer, Run, Sample, Trace}
 use Rattle.call_steps.specs.declared.targets.Target.{Target}
-use Rattle.call_laws.specs.Assemble.{assemble_work}
-use Rattle.machine_verbs.specs.Bus.{Read, bus_work, none_read, on_plan, one_read, shares_bus, with_cores, with_halts}
-use Rattle.call_steps.specs.CallsFollow.{AsksOn, CallsOf, Follows, Makes, NoCalls, ReadFails, ReadsOn, StopsHere, TriesWrite, WritesLast}
-use Rattle.call_laws.specs.Check.{check_work}
-use Rattle.call_steps.specs.Compile.{compile_work, on_compiled}
-use Rattle.call_laws.specs.Disassemble.{disassemble_work}
-use Rattle.call_laws.specs.Evaluate.{evaluate_work, on_left}
-use Rattle.call_steps.specs.Happened.{AreFiles, CallsItsFiles, FailsToRead, InOrder, Log, NoFurther, ReadsNext, WritesOutput}
-use Rattle.call_steps.specs.Histogram.{Made}
-use Rattle.call_laws.specs.Infer.{infer_work, on_inferred}
-use Rattle.call_steps.specs.Questions.{Answer, Question}
-use Rattle.machine_verbs.specs.Run.{on_halt, run_work}
-use Rattle.call_laws.specs.Sample.{on_sampled, sample_work}
-use Rattle.call_steps.specs.Steps.{on_judged, or_ends, with_accepted, with_assembly, with_object, with_source, with_variables}
-use Rattle.machine_verbs.specs.Trace.{shows_on, trace_work}
-use Rattle.call_laws.specs.Verbs.{work_of, works}
-use Rattle.call_steps.specs.Work.{Asks, Ends, Reads, Work, Writes}
+use Rattle.call_laws.specs.Prelude.{assemble_work, check_work, disassemble_work, evaluate_work, on_left, infer_work, on_inferred, on_sampled, sample_work, work_of, works}
+use Rattle.machine_verbs.specs.Prelude.{Read, bus_work, none_read, on_plan, one_read, shares_bus, with_cores, with_halts, on_halt, run_work, shows_on, trace_work}
+use Rattle.call_steps.specs.Prelude.{AsksOn, CallsOf, Follows, Makes, NoCalls, ReadFails, ReadsOn, StopsHere, TriesWrite, WritesLast, compile_work, on_compiled, AreFiles, CallsItsFiles, FailsToRead, InOrder, Log, NoFurther, ReadsNext, WritesOutput, Made, Answer, Question, on_judged, or_ends, with_accepted, with_assembly, with_object, with_source, with_variables, Asks, Ends, Reads, Work, Writes}
 use Rattle.command_words.proofs.VerbWords.{words-ask}
 use Rattle.call_laws.proofs.EachVerb.{each-verb}
 use Rattle.std.specs.Borrow.{Bor}
-use Rattle.command_words.specs.Options.{texts}
 
 -- ---- the calls that follow a work, by its kind
 
@@ -59,9 +40,7 @@ OfCalls (Asks question next) before after =
 
 no-calls : (work : Work) (log : Log) → OfCalls work log log
 no-calls (Ends seen verdict) log = refl
-no-calls (Writes name bytes done) log = inl refl
-no-calls (Reads name limit next) log = inl refl
-no-calls (Asks question next) log = inl refl
+no-calls other log = inl refl
 
 of-calls : (work : Work) (before after : Log) → Follows work before after → OfCalls work before after
 of-calls work before after (StopsHere work' log) = no-calls work before

@@ -1,10 +1,8 @@
 -- How far an evaluation comes after its program: the inputs for the program's variables.
 use Rattle.std.proofs.Common.{◌≡◌, ℕ, ℤ, List, subst}
 use Rattle.gr_word.specs.declared.variables.Want.{Want}
-use Rattle.call_replies.specs.Texts.{Said}
-use Rattle.call_steps.specs.Reached.{Finds, FindsNone, HasReached, HasStopped, Stage}
-use Rattle.call_steps.specs.Steps.{with_variables}
-use Rattle.call_steps.specs.Work.{Work}
+use Rattle.call_replies.specs.Prelude.{Said}
+use Rattle.call_steps.specs.Prelude.{Finds, FindsNone, HasReached, HasStopped, Stage, with_variables, Work}
 use Rattle.call_steps.proofs.Reaching.{then-reached, then-stopped}
 
 module _ {before between after : Stage} {work : Work} {wants declared : List Want} (input : List ℕ)

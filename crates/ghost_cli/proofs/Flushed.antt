@@ -1,13 +1,10 @@
 -- A call whose sink can't pass on its buffered bytes ends with 4, for the same reason as before.
 use Rattle.std.proofs.Common.{◌≡◌, ℕ, ◌≤◌, inr, List, Option, Some, None, refl, sym, subst, ⊎_elim}
-use Rattle.gr_base.specs.Added.{AddsLess}
-use Rattle.gr_base.specs.Counts.{Rose}
+use Rattle.gr_base.specs.Prelude.{AddsLess, Rose}
 use Rattle.gr_base.proofs.Counts.{rose_before}
-use Rattle.gr_outside.specs.Shelf.{ShelfSeen}
-use Rattle.gr_outside.specs.Sink.{SinkSeen}
-use Rattle.call_steps.specs.Outside.{Outside, outside, PutsSaid, LeftBy, Unread, Long, Judged, Written, NotWritten, Starved, Explains, NoWork, NoRoom, Worked}
-use Rattle.call_replies.specs.Texts.{Said, usage, unread, unwritten, no_memory, too_long, wrote}
-use Rattle.call_steps.specs.Work.{Ending, IsVerdict, Work, said_at}
+use Rattle.gr_outside.specs.Prelude.{ShelfSeen, SinkSeen}
+use Rattle.call_steps.specs.Prelude.{Outside, outside, PutsSaid, LeftBy, Unread, Long, Judged, Written, NotWritten, Starved, Explains, NoWork, NoRoom, Worked, Ending, IsVerdict, Work, said_at}
+use Rattle.call_replies.specs.Prelude.{Said, usage, unread, unwritten, no_memory, too_long, wrote}
 
 -- nothing is stated about a sink that reveals no bytes
 untold : (before now : Option (List ℕ)) (text : List ℕ) → now ≡ None → AddsLess before now text

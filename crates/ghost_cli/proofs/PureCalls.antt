@@ -1,26 +1,18 @@
 -- Why a call over bytes found nothing: from what ends the work of a verb.
 use Rattle.std.proofs.Common.{◌≡◌, inl, inr, ℕ, ℤ, Bool, List, [], Option, Some, None, Result, Ok, Err, sym, ap, ◌∙◌}
-use Rattle.lt_isa.specs.Object.{Parts}
-use Rattle.lt_isa.specs.Start.{wants_of}
+use Rattle.lt_isa.specs.Prelude.{Parts, wants_of}
 use Rattle.call_steps.specs.declared.targets.Target.{Target}
 use Rattle.object_file.specs.declared.errors.DecodeError.{DecodeError}
-use Rattle.src_tree.specs.Trees.{Source}
+use Rattle.src_tree.specs.Prelude.{Source}
 use Rattle.trace_patterns.specs.declared.reasons.Reason.{Reason}
 use Rattle.call_replies.specs.declared.replies.Done.TheVariants.{Compiled}
 use Rattle.call_replies.specs.declared.replies.InputFault.{InputFault}
 use Rattle.call_replies.specs.declared.replies.Verdict.{Verdict}
 use Rattle.call_replies.specs.declared.replies.Verdict.TheVariants.{BadInput, BadSource, Malformed, Refused}
 use Rattle.call_replies.specs.declared.source_faults.SourceFault.{SourceFault}
-use Rattle.call_steps.specs.Compile.{on_compiled}
-use Rattle.call_steps.specs.Objects.{SpellsObject}
-use Rattle.call_steps.specs.Progress.{EndsWorkWith}
-use Rattle.ghost_cli.specs.Pure.{NoInputs, NoObject, NoProgram, NoRoom, NoRoomLeft, NoRoomOnMachine, NoRoomToRun, NotAccepted, NotChecked, NotCompiled, NotRun}
-use Rattle.call_steps.specs.Questions.{IsRight, WhetherAccepted, WhichCompiled, WhichInputs, WhichObject, WhichSource}
-use Rattle.call_steps.specs.Showing.{nothing_seen}
-use Rattle.call_steps.specs.Sources.{SpellsTyped}
-use Rattle.call_steps.specs.Steps.{on_judged, or_ends}
-use Rattle.call_replies.specs.Texts.{Said, comes_to}
-use Rattle.call_steps.specs.Work.{Ends, Work, Writes}
+use Rattle.call_steps.specs.Prelude.{on_compiled, SpellsObject, EndsWorkWith, IsRight, WhetherAccepted, WhichCompiled, WhichInputs, WhichObject, WhichSource, nothing_seen, SpellsTyped, on_judged, or_ends, Ends, Work, Writes}
+use Rattle.ghost_cli.specs.Prelude.{NoInputs, NoObject, NoProgram, NoRoom, NoRoomLeft, NoRoomOnMachine, NoRoomToRun, NotAccepted, NotChecked, NotCompiled, NotRun}
+use Rattle.call_replies.specs.Prelude.{Said, comes_to}
 
 -- a work that isn't a verdict, and the verdict of one that is
 abbrev some-write : Work

@@ -4,10 +4,9 @@ use Rattle.std.specs.Prelude.{codes, bytes_eq}
 use Rattle.std.proofs.lemmas.List.{length-replicate}
 use Rattle.std.proofs.lemmas.List.Elements.{All-replicate}
 use Rattle.std.proofs.lemmas.List.FromFn.{length-map-range_with_len, get_or-map-range_with_len, map-range_with_len_more}
-use Rattle.gr_word.specs.Fitting.{AreWords, FitsWants}
-use Rattle.gr_word.specs.Words.{IsWord}
+use Rattle.gr_word.specs.Prelude.{AreWords, FitsWants, IsWord}
 use Rattle.gr_word.specs.declared.variables.Want.{Want}
-use Rattle.call_steps.specs.Histogram.{next_number, histogram_number, histogram_numbers, sample_inputs}
+use Rattle.call_steps.specs.Prelude.{next_number, histogram_number, histogram_numbers, sample_inputs}
 
 -- a number is below 2^31
 pub number_at-small : (k : ℕ) → histogram_number k < 2 ^ 31

@@ -1,15 +1,10 @@
 -- From a run on the sample's input to what is counted of it.
 use Rattle.std.proofs.Common.{◌≡◌, ℕ, ℤ, List, [], ◌++◌, sym, ap, ap₂, ◌∙◌, subst, arith}
-use Rattle.lt_isa.specs.Machine.{State}
-use Rattle.lt_isa.specs.Object.{Parts}
-use Rattle.lt_isa.specs.Start.{FitsObject, start_state, trace, wants_of}
-use Rattle.lt_isa.specs.Trace.{HaltsAt, Stamped, trace_from}
+use Rattle.lt_isa.specs.Prelude.{State, Parts, FitsObject, start_state, trace, wants_of, HaltsAt, Stamped, trace_from}
 use Rattle.banks.specs.declared.bank.Leaves.{Leaves}
-use Rattle.processor.specs.Watching.{with_paths}
-use Rattle.call_steps.specs.Counting.{Counts, how_many, is_plain, is_encrypted, is_second}
-use Rattle.call_steps.specs.Histogram.{sample_cycles, sample_inputs, sample_trace}
-use Rattle.processor.specs.Ends.{NoHalt}
-use Rattle.ghost_cli.specs.Sampled.{RanSo}
+use Rattle.processor.specs.Prelude.{with_paths, NoHalt}
+use Rattle.call_steps.specs.Prelude.{Counts, how_many, is_plain, is_encrypted, is_second, sample_cycles, sample_inputs, sample_trace}
+use Rattle.ghost_cli.specs.Prelude.{RanSo}
 use Rattle.call_steps.specs.declared.count_watch.CountWatch.{CountWatch}
 use Rattle.call_steps.proofs.EventCounts.{run-counted}
 use Rattle.ghost_cli.proofs.SampleInputs.{sample-fit}

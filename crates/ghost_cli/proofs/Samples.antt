@@ -1,19 +1,15 @@
 -- The parts of a sample: what is made, its run and its figures.
 use Rattle.std.proofs.Common.{◌≡◌, Bool, ℕ, ℤ, List, Some, refl, sym, ◌∙◌, subst}
-use Rattle.lt_isa.specs.Object.{Parts}
-use Rattle.lt_isa.specs.Start.{trace, wants_of}
-use Rattle.lt_isa.specs.Trace.{HaltsAt}
-use Rattle.object_file.specs.Spelling.{spelling}
-use Rattle.src_tree.specs.Meaning.{Store, meaning}
-use Rattle.src_tree.specs.Trees.{Source}
-use Rattle.flow_types.specs.Wants.{declared_wants}
-use Rattle.bank_alloc.specs.Layout.{IsLaidOut}
-use Rattle.compiled_objects.specs.Implements.{by_name}
+use Rattle.lt_isa.specs.Prelude.{Parts, trace, wants_of, HaltsAt}
+use Rattle.object_file.specs.Prelude.{spelling}
+use Rattle.src_tree.specs.Prelude.{Store, meaning, Source}
+use Rattle.flow_types.specs.Prelude.{declared_wants}
+use Rattle.bank_alloc.specs.Prelude.{IsLaidOut}
+use Rattle.compiled_objects.specs.Prelude.{by_name}
 use Rattle.ghost_cli.specs.declared.sample.CountedRun.{CountedRun}
 use Rattle.ghost_cli.specs.declared.sample.SampleFile.{SampleFile}
-use Rattle.call_steps.specs.Compiled.{IsCompiledTo, plan_for}
-use Rattle.call_steps.specs.Histogram.{Made, IsMade, sample_profile, sample_target, sample_cycles, sample_inputs, sample_store, sample_trace, sample_words, sum_left}
-use Rattle.ghost_cli.specs.Sampled.{IsFileOf, SampleIsReady, RanSo}
+use Rattle.call_steps.specs.Prelude.{IsCompiledTo, plan_for, Made, IsMade, sample_profile, sample_target, sample_cycles, sample_inputs, sample_store, sample_trace, sample_words, sum_left}
+use Rattle.ghost_cli.specs.Prelude.{IsFileOf, SampleIsReady, RanSo}
 use Rattle.call_laws.proofs.CompiledRuns.{compiled-runs}
 use Rattle.call_laws.proofs.OnTarget.{target-sound}
 use Rattle.ghost_cli.proofs.SampleInputs.{sample-fit}

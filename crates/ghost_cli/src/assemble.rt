@@ -1,5 +1,5 @@
-ghost use Rattle.command_words.specs.Asks.{assemble_asks};
-ghost use Rattle.call_laws.specs.Assemble.{assemble_work};
+ghost use Rattle.command_words.specs.Prelude.{assemble_asks};
+ghost use Rattle.call_laws.specs.Prelude.{assemble_work};
 
 use call_replies::replies::{Done, Reply};
 use call_steps::reading::find_assembly;

@@ -1,5 +1,5 @@
-ghost use Rattle.command_words.specs.Asks.{check_asks};
-ghost use Rattle.call_laws.specs.Check.{check_work};
+ghost use Rattle.command_words.specs.Prelude.{check_asks};
+ghost use Rattle.call_laws.specs.Prelude.{check_work};
 
 use call_replies::replies::{Reply, Verdict};
 use call_steps::putting::say;

@@ -1,8 +1,8 @@
 ghost use Rattle.std.specs.Prelude.{◌≡◌, IfSome};
 ghost use Rattle.std.specs.Option.{option_map};
-ghost use Rattle.lt_isa.specs.Ranges.{ProfileFits};
-ghost use Rattle.command_words.specs.Asks.{compile_asks, compile_named};
-ghost use Rattle.call_steps.specs.Compile.{compile_on, compile_work};
+ghost use Rattle.lt_isa.specs.Prelude.{ProfileFits};
+ghost use Rattle.command_words.specs.Prelude.{compile_asks, compile_named};
+ghost use Rattle.call_steps.specs.Prelude.{compile_on, compile_work};
 
 use call_replies::replies::{Done, Reply};
 use call_steps::sources::find_source;

@@ -1,5 +1,5 @@
-ghost use Rattle.command_words.specs.Asks.{disassemble_asks};
-ghost use Rattle.call_laws.specs.Disassemble.{disassemble_work};
+ghost use Rattle.command_words.specs.Prelude.{disassemble_asks};
+ghost use Rattle.call_laws.specs.Prelude.{disassemble_work};
 
 use call_replies::replies::{Done, Reply};
 use call_steps::reading::find_object;

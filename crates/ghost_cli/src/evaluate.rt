@@ -1,10 +1,10 @@
 ghost use Rattle.std.specs.Prelude.{◌≡◌, IfOk};
 ghost use Rattle.std.specs.Option.{option_map};
-ghost use Rattle.gr_word.specs.Fitting.{FitsWants};
-ghost use Rattle.src_tree.specs.Trees.{source_of};
-ghost use Rattle.flow_types.specs.Wants.{declared_wants};
-ghost use Rattle.command_words.specs.Asks.{evaluate_asks, evaluate_named};
-ghost use Rattle.call_laws.specs.Evaluate.{evaluate_work};
+ghost use Rattle.gr_word.specs.Prelude.{FitsWants};
+ghost use Rattle.src_tree.specs.Prelude.{source_of};
+ghost use Rattle.flow_types.specs.Prelude.{declared_wants};
+ghost use Rattle.command_words.specs.Prelude.{evaluate_asks, evaluate_named};
+ghost use Rattle.call_laws.specs.Prelude.{evaluate_work};
 ghost use Rattle.ghost_cli.specs.Evaluated.{LeavesText};
 
 use call_replies::replies::{Done, Reply, Verdict};

@@ -1,10 +1,9 @@
 ghost use Rattle.std.specs.Prelude.{◌≡◌, ◌<◌, ◌≤◌, IfErr, IfOk, false, length, map, pos, replicate, string_bytes};
-ghost use Rattle.gr_base.specs.Lists.{Within};
-ghost use Rattle.gr_word.specs.Fitting.{AreWords, words_at};
-ghost use Rattle.src_tree.specs.Trees.{source_of};
-ghost use Rattle.call_steps.specs.Histogram.{next_number, histogram_numbers, sample_inputs, sample_text, sample_words, sum_of};
-ghost use Rattle.call_steps.specs.Sources.{SpellsTyped};
-ghost use Rattle.call_replies.specs.Texts.{no_memory, said};
+ghost use Rattle.gr_base.specs.Prelude.{Within};
+ghost use Rattle.gr_word.specs.Prelude.{AreWords, words_at};
+ghost use Rattle.src_tree.specs.Prelude.{source_of};
+ghost use Rattle.call_steps.specs.Prelude.{next_number, histogram_numbers, sample_inputs, sample_text, sample_words, sum_of, SpellsTyped};
+ghost use Rattle.call_replies.specs.Prelude.{no_memory, said};
 
 use call_replies::replies::Reply;
 use call_steps::sources::source_in;

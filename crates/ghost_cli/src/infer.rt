@@ -1,11 +1,10 @@
 ghost use Rattle.std.specs.Prelude.{◌≡◌, IfErr, IfOk, List, ℕ, length};
-ghost use Rattle.lt_isa.specs.Ranges.{IsInRange};
-ghost use Rattle.note_infer.specs.Inferred.{IsInferred};
-ghost use Rattle.command_words.specs.Asks.{infer_asks};
-ghost use Rattle.call_laws.specs.Infer.{infer_work, on_inferred};
-ghost use Rattle.call_steps.specs.Progress.{EndsWorkWith, SaysNotes};
-ghost use Rattle.call_steps.specs.Questions.{WhatIsInferred};
-ghost use Rattle.call_replies.specs.Texts.{said};
+ghost use Rattle.lt_isa.specs.Prelude.{IsInRange};
+ghost use Rattle.note_infer.specs.Prelude.{IsInferred};
+ghost use Rattle.command_words.specs.Prelude.{infer_asks};
+ghost use Rattle.call_laws.specs.Prelude.{infer_work, on_inferred};
+ghost use Rattle.call_steps.specs.Prelude.{EndsWorkWith, SaysNotes, WhatIsInferred};
+ghost use Rattle.call_replies.specs.Prelude.{said};
 
 use call_replies::replies::{Done, Reply, Verdict};
 use call_steps::reading::find_object;

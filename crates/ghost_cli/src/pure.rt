@@ -1,16 +1,9 @@
 ghost use Rattle.std.specs.Prelude.{◌≡◌, ◌≤◌, ℤ, IfErr, IfOk, List, Ok, length};
-ghost use Rattle.lt_isa.specs.Oblivious.{IsOblivious};
-ghost use Rattle.lt_isa.specs.Ranges.{ProfileFits};
-ghost use Rattle.lt_isa.specs.Start.{FitsObject, wants_of};
-ghost use Rattle.call_laws.specs.Headline.{IsObjectOf};
-ghost use Rattle.call_steps.specs.Objects.{SpellsObject, object_limit};
-ghost use Rattle.call_steps.specs.Progress.{EndsWorkWith};
+ghost use Rattle.lt_isa.specs.Prelude.{IsOblivious, ProfileFits, FitsObject, wants_of};
+ghost use Rattle.call_laws.specs.Prelude.{IsObjectOf};
+ghost use Rattle.call_steps.specs.Prelude.{SpellsObject, object_limit, EndsWorkWith, AreInputs, WhichInputs, source_limit, input_limit, or_ends, Work};
 ghost use Rattle.ghost_cli.specs.Pure.{NotChecked, NotCompiled, NotRun, RunsTo, TracesTo};
-ghost use Rattle.call_steps.specs.Questions.{AreInputs, WhichInputs};
-ghost use Rattle.call_steps.specs.Sources.{source_limit};
-ghost use Rattle.call_steps.specs.Steps.{input_limit, or_ends};
-ghost use Rattle.call_replies.specs.Texts.{said};
-ghost use Rattle.call_steps.specs.Work.{Work};
+ghost use Rattle.call_replies.specs.Prelude.{said};
 ghost use Rattle.call_replies.specs.declared.replies.Verdict.TheVariants.{BadInput};
 
 use call_replies::replies::Reply;

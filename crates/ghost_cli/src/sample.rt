@@ -1,15 +1,13 @@
 ghost use Rattle.std.specs.Prelude.{◌≡◌, IfErr, IfOk, IfSome, Some, ℕ};
 ghost use Rattle.std.specs.Option.{option_map};
-ghost use Rattle.gr_base.specs.Lists.{Within};
-ghost use Rattle.lt_isa.specs.Ranges.{IsInRange};
-ghost use Rattle.src_tree.specs.Meaning.{Store, meaning};
-ghost use Rattle.src_tree.specs.Trees.{source_of};
-ghost use Rattle.call_steps.specs.Histogram.{sample_cycles, sample_store, sum_left};
-ghost use Rattle.command_words.specs.Asks.{sample_asks, sample_named};
-ghost use Rattle.call_laws.specs.Sample.{sample_work};
+ghost use Rattle.gr_base.specs.Prelude.{Within};
+ghost use Rattle.lt_isa.specs.Prelude.{IsInRange};
+ghost use Rattle.src_tree.specs.Prelude.{Store, meaning, source_of};
+ghost use Rattle.call_steps.specs.Prelude.{sample_cycles, sample_store, sum_left};
+ghost use Rattle.command_words.specs.Prelude.{sample_asks, sample_named};
+ghost use Rattle.call_laws.specs.Prelude.{sample_work, sample_program};
 ghost use Rattle.ghost_cli.specs.Sampled.{SampleCameTo, SampleIsReady, RanCounted};
-ghost use Rattle.call_laws.specs.SampleTree.{sample_program};
-ghost use Rattle.call_replies.specs.Texts.{no_memory, said};
+ghost use Rattle.call_replies.specs.Prelude.{no_memory, said};
 
 use crate::histogram::{
     SAMPLE_BLOCK_LOG, SAMPLE_CYCLES, sample_inputs, sample_program, sum_of_counts,

@@ -1,15 +1,8 @@
 ghost use Rattle.std.specs.Prelude.{◌≡◌, IfErr, IfOk, OnErr};
-ghost use Rattle.command_words.specs.CommandLines.{AreTexts};
-ghost use Rattle.call_steps.specs.CallsFollow.{Makes};
-ghost use Rattle.call_steps.specs.Happened.{Happened};
-ghost use Rattle.call_laws.specs.HeadlineFollows.{HasHeadline};
-ghost use Rattle.command_words.specs.Options.{texts};
-ghost use Rattle.call_steps.specs.Outside.{Explains, outside};
-ghost use Rattle.call_steps.specs.Progress.{LeavesToSay};
-ghost use Rattle.call_laws.specs.Promises.{Promises};
-ghost use Rattle.call_replies.specs.Texts.{said};
-ghost use Rattle.command_words.specs.Verbs.{asked_of, asks_of};
-ghost use Rattle.call_laws.specs.Verbs.{work_of, works};
+ghost use Rattle.command_words.specs.Prelude.{AreTexts, texts, asked_of, asks_of};
+ghost use Rattle.call_steps.specs.Prelude.{Makes, Happened, Explains, outside, LeavesToSay};
+ghost use Rattle.call_laws.specs.Prelude.{HasHeadline, Promises, work_of, works};
+ghost use Rattle.call_replies.specs.Prelude.{said};
 ghost use Rattle.clap.specs.Words.{found_of, rows_of};
 
 use crate::assemble::Assemble;

@@ -6,16 +6,12 @@ use Rattle.std.specs.Str.{bytes_eq}
 use Rattle.std.proofs.lemmas.Bool.{false_from_ne_true}
 use Rattle.std.proofs.lemmas.Option.{same_Some}
 use Rattle.std.proofs.lemmas.Slice.Eq.{bytes_eq-Decides}
-use Rattle.gr_base.specs.Added.{Adds}
-use Rattle.gr_base.specs.Counts.{Rose}
-use Rattle.gr_outside.specs.Shelf.{Files, SameBut}
-use Rattle.gr_outside.specs.Sink.{SinkSeen}
-use Rattle.call_steps.specs.Outside.{outside}
-use Rattle.call_laws.specs.Promises.{Promises, IsOutput}
-use Rattle.call_steps.specs.Work.{Work}
+use Rattle.gr_base.specs.Prelude.{Adds, Rose}
+use Rattle.gr_outside.specs.Prelude.{Files, SameBut, SinkSeen}
+use Rattle.call_steps.specs.Prelude.{outside, Work}
+use Rattle.call_laws.specs.Prelude.{Promises, IsOutput}
 use Rattle.call_laws.proofs.Safe.{promises-follow}
-use Rattle.ghost_front.specs.Streams.{Streams, as_shelf, overlaid, stream_of, told}
-use Rattle.ghost_front.specs.Served.{Around, Delivers, NotDone, Whole, NotPut, Serves, Refused, NoRoom, Printed, Streamed, StreamsFile, KeepsOthers, around, bytes_of}
+use Rattle.ghost_front.specs.Prelude.{Streams, as_shelf, overlaid, stream_of, told, Around, Delivers, NotDone, Whole, NotPut, Serves, Refused, NoRoom, Printed, Streamed, StreamsFile, KeepsOthers, around, bytes_of}
 use Rattle.ghost_front.proofs.Overlaid.{get_other, kept_below}
 
 -- ---- the file for standard output

@@ -8,9 +8,9 @@ use Rattle.std.specs.Cmp.Lexicographic.{slice_cmp, texts_ties, nat_list_cmp_tota
 use Rattle.std.specs.FinMap.{get, remove, same_map, get-insert, get-remove, slice_cmp-IsAntisymmetric, nat_cmp-IsAntisymmetric}
 use Rattle.std.specs.Str.{bytes_eq}
 use Rattle.std.proofs.lemmas.Slice.Eq.{bytes_eq-Decides}
-use Rattle.gr_outside.specs.Shelf.{Files, with_file, front_of, SameBut}
+use Rattle.gr_outside.specs.Prelude.{Files, with_file, front_of, SameBut}
 use Rattle.std.specs.Prelude.{IfSome, MatchOption, take}
-use Rattle.ghost_front.specs.Streams.{dash, overlaid}
+use Rattle.ghost_front.specs.Prelude.{dash, overlaid}
 
 -- whether two names are one, as the map compares them
 abbrev is_one : List ℕ → List ℕ → Bool

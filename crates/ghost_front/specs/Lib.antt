@@ -1,3 +1,4 @@
 pub mod Streams
 pub mod Requests
 pub mod Served
+pub mod Prelude

@@ -1,7 +1,7 @@
 //! Prints texts, and returns the exit status that goes with them.
 
 ghost use Rattle.std.specs.Prelude.{◌≡◌, ◌⊎◌, ◌≢◌};
-ghost use Rattle.gr_base.specs.Counts.{Rose};
+ghost use Rattle.gr_base.specs.Prelude.{Rose};
 
 use gr_outside::{Sink, SinkFailed};
 

@@ -1,7 +1,7 @@
 //! What the words of a call ask the front itself.
 
 ghost use Rattle.std.specs.Prelude.{◌≡◌, ◌∷◌, is_some};
-ghost use Rattle.command_words.specs.Options.{texts};
+ghost use Rattle.command_words.specs.Prelude.{texts};
 ghost use Rattle.ghost_front.specs.Requests.{asked, asks_front, asks_help, is_about, is_help_option, is_manner};
 
 use crate::verb_table::{VerbHelp, verb_help};

@@ -1,10 +1,9 @@
 //! A call of a verb of `ghost_cli`, with the standard streams as files.
 
 ghost use Rattle.std.specs.Prelude.{◌≡◌, ◌⊎◌, option_copied};
-ghost use Rattle.command_words.specs.Options.{texts};
-ghost use Rattle.call_steps.specs.Outside.{outside};
-ghost use Rattle.call_laws.specs.Promises.{Promises};
-ghost use Rattle.call_laws.specs.Verbs.{work_of};
+ghost use Rattle.command_words.specs.Prelude.{texts};
+ghost use Rattle.call_steps.specs.Prelude.{outside};
+ghost use Rattle.call_laws.specs.Prelude.{Promises, work_of};
 ghost use Rattle.ghost_front.specs.Served.{Delivers, Serves, StreamsFile, around, bytes_of};
 ghost use Rattle.ghost_front.specs.Streams.{as_shelf};
 

@@ -4,7 +4,7 @@ ghost use Rattle.std.specs.Prelude.{◌≡◌, ◌≢◌, ◌≤◌, None, Some,
 ghost use Rattle.std.specs.Option.{option_map};
 ghost use Rattle.std.specs.FinMap.{get};
 ghost use Rattle.std.specs.Str.{bytes_eq};
-ghost use Rattle.gr_outside.specs.Shelf.{SameBut, front_of, with_file};
+ghost use Rattle.gr_outside.specs.Prelude.{SameBut, front_of, with_file};
 ghost use Rattle.ghost_front.specs.Streams.{as_shelf, dash, overlaid, stream_of, told};
 
 use gr_outside::{Shelf, ShelfError};

@@ -1,8 +1,8 @@
 //! The verbs that the front does itself, with `-` as standard input.
 
 ghost use Rattle.std.specs.Prelude.{◌≡◌, is_some};
-ghost use Rattle.command_words.specs.Options.{texts};
-ghost use Rattle.call_laws.specs.Verbs.{work_of};
+ghost use Rattle.command_words.specs.Prelude.{texts};
+ghost use Rattle.call_laws.specs.Prelude.{work_of};
 ghost use Rattle.ghost_front.specs.Requests.{asks_tool, is_tool};
 ghost use Rattle.ghost_front.specs.Served.{KeepsOthers};
 ghost use Rattle.ghost_front.specs.Streams.{told};

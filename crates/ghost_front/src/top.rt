@@ -1,8 +1,8 @@
 //! The call of the front program.
 
 ghost use Rattle.std.specs.Prelude.{◌≡◌, ◌⊎◌, false};
-ghost use Rattle.command_words.specs.Options.{texts};
-ghost use Rattle.call_laws.specs.Verbs.{work_of};
+ghost use Rattle.command_words.specs.Prelude.{texts};
+ghost use Rattle.call_laws.specs.Prelude.{work_of};
 ghost use Rattle.ghost_front.specs.Requests.{asked, asks_front, asks_tool};
 ghost use Rattle.ghost_front.specs.Served.{KeepsOthers, Serves, around};
 

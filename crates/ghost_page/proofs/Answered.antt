@@ -1,12 +1,9 @@
 -- An outcome of the program over the shelf and the sink made here is one over the page's files.
 use Rattle.std.proofs.Common.{◌≡◌, ℕ, List, [], Some, sym, subst}
-use Rattle.gr_outside.specs.Sink.{SinkSeen}
-use Rattle.gr_outside.specs.MemShelf.{Shelved}
-use Rattle.gr_outside.specs.MemSink.{Held}
-use Rattle.call_steps.specs.Outside.{Outside, outside}
-use Rattle.call_laws.specs.Promises.{Promises}
-use Rattle.call_laws.specs.Verbs.{work_of}
-use Rattle.ghost_page.specs.Page.{IsAnswered, IsFile, IsText, page_outside, page_shelf, shelf_seen, sink_seen, words_in}
+use Rattle.gr_outside.specs.Prelude.{SinkSeen, Shelved, Held}
+use Rattle.call_steps.specs.Prelude.{Outside, outside}
+use Rattle.call_laws.specs.Prelude.{Promises, work_of}
+use Rattle.ghost_page.specs.Prelude.{IsAnswered, IsFile, IsText, page_outside, page_shelf, shelf_seen, sink_seen, words_in}
 
 -- what is seen of a sink with these bytes and this many faults
 abbrev pub seen : List ℕ → ℕ → SinkSeen

@@ -1,5 +1,5 @@
 ghost use Rattle.std.specs.Prelude.{◌≡◌, IfOk};
-ghost use Rattle.command_words.specs.Options.{texts};
+ghost use Rattle.command_words.specs.Prelude.{texts};
 ghost use Rattle.ghost_page.specs.Page.{page_shelf, words_in};
 
 use gr_base::Memory;

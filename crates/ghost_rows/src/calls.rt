@@ -1,5 +1,5 @@
 ghost use Rattle.std.specs.Prelude.{IfOk, IsTrue};
-ghost use Rattle.gr_outside.specs.Files.{are_distinct};
+ghost use Rattle.gr_outside.specs.Prelude.{are_distinct};
 
 use crate::contents::{Named, Store, Trouble};
 use ghost_cli::ghostrider;

@@ -1,8 +1,7 @@
 ghost use Rattle.std.specs.Prelude.{◌≡◌, ◌≢◌, ◌≤◌, IfOk, IfSome};
-ghost use Rattle.lt_isa.specs.Ranges.{IsInRange, ProfileFits};
-ghost use Rattle.lt_isa.specs.Start.{FitsObject, final, start_state, trace};
-ghost use Rattle.processor.specs.Ends.{EndsAs};
-ghost use Rattle.line_costs.specs.Costs.{accesses_of, CountsSteps, end_cycle, total};
+ghost use Rattle.lt_isa.specs.Prelude.{IsInRange, ProfileFits, FitsObject, final, start_state, trace};
+ghost use Rattle.processor.specs.Prelude.{EndsAs};
+ghost use Rattle.line_costs.specs.Prelude.{accesses_of, CountsSteps, end_cycle, total};
 
 use call_replies::replies::Reply;
 use call_steps::oblivious::{SeededOram, load_seeded};

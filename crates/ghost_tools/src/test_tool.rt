@@ -1,6 +1,6 @@
 ghost use Rattle.std.specs.Prelude.{◌≡◌, ◌≢◌, ◌≤◌, IfOk, IfSome};
-ghost use Rattle.lt_isa.specs.Ranges.{ProfileFits};
-ghost use Rattle.object_tools.specs.Statuses.{status_of};
+ghost use Rattle.lt_isa.specs.Prelude.{ProfileFits};
+ghost use Rattle.object_tools.specs.Prelude.{status_of};
 
 use call_replies::replies::{InputFault, Reply, Verdict};
 use clap::ArgMatches;

@@ -2,7 +2,7 @@
 use Rattle.std.proofs.Common.{◌+◌, ◌<◌, List, ◌++◌, length, Option, Some, None, refl, arith, length-append, append_assoc}
 use Rattle.std.proofs.Math.Seq.{take-append-add}
 use Rattle.std.proofs.lemmas.List.{take-append-le}
-use Rattle.gr_base.specs.Added.{Adds, AddsLess}
+use Rattle.gr_base.specs.Prelude.{Adds, AddsLess}
 
 -- two additions in sequence
 pub Adds-then : {X : Type 0} (old middle new : Option (List X)) (first second : List X)

@@ -1,6 +1,6 @@
 -- The value of a function at the last item of a list.
 use Rattle.std.proofs.Common.{◌≡◌, ℕ, zero, suc, ◌+◌, ◌-◌, ◌<◌, List, [], ◌∷◌, ◌++◌, length, get_or, refl, sym, ap, ◌∙◌, arith}
-use Rattle.gr_base.specs.Lists.{at_last}
+use Rattle.gr_base.specs.Prelude.{at_last}
 
 -- the value at the last item, if one was just added
 pub at_last-push : {X : Type 0} (f : X → ℕ) (xs : List X) (x : X) → at_last f (xs ++ x ∷ []) ≡ f x

@@ -1,8 +1,7 @@
 -- Counts of faults that rose by one, or over several calls.
 use Rattle.std.proofs.Common.{ℕ, ◌-◌, ◌^◌, ◌≤◌, ◌⊎◌, inl, inr, ⊎_elim, arith}
 use Rattle.std.proofs.lemmas.Bool.{cases_lt}
-use Rattle.gr_base.specs.Counts.{Rose}
-use Rattle.gr_base.specs.Calls.{one_more}
+use Rattle.gr_base.specs.Prelude.{Rose, one_more}
 
 -- one more rises
 pub rose_by_one : (count : ℕ) → count ≤ 2 ^ 64 - 1 → Rose count (one_more count)

@@ -10,7 +10,7 @@ use Rattle.std.proofs.lemmas.Fmt.{decimal_is_IsNumeral, decimal_digit, first_dec
 use Rattle.std.proofs.lemmas.Int.Digits.{digits_value-lt, digits_value_more}
 use Rattle.std.proofs.lemmas.List.{length-take-le}
 use Rattle.std.proofs.lemmas.Str.Parse.{tells_digits, numerals_by_value}
-use Rattle.gr_base.specs.Numerals.{are_digits, is_canonical_numeral, IsNumeralOf, OneNumeral}
+use Rattle.gr_base.specs.Prelude.{are_digits, is_canonical_numeral, IsNumeralOf, OneNumeral}
 
 pub AllDigits-take : (radix i : ℕ) (ds : List ℕ) → AllDigits radix ds → AllDigits radix (take i ds)
 AllDigits-take radix zero ds all = tt

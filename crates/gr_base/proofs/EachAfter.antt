@@ -2,7 +2,7 @@
 use Rattle.std.proofs.Common.{◌≡◌, ℕ, zero, suc, ◌+◌, ◌<◌, List, [], ◌∷◌, ◌++◌, length, get_or, take, subst, sym, ⊎_elim, arith, append_assoc}
 use Rattle.std.proofs.lemmas.List.{append-nil, get_or_read}
 use Rattle.std.proofs.lemmas.Bool.{cases_eq}
-use Rattle.gr_base.specs.Lists.{EachAfter}
+use Rattle.gr_base.specs.Prelude.{EachAfter}
 
 -- each of the first n items fits after those before it
 abbrev pub EachBelow : {X : Type 0} → (List X → X → Type 0) → List X → ℕ → Type 0
@@ -44,16 +44,6 @@ EachAfter-push Fits before (y ∷ xs) x each fits = (
   each.0,
   EachAfter-push Fits (before ++ y ∷ []) xs x each.1
       (subst (λ l. Fits l x) (sym (append_assoc before (y ∷ []) xs)) fits),
-)
-
--- two lists in sequence
-pub EachAfter-append : {X : Type 0} (Fits : List X → X → Type 0) (before xs ys : List X)
-    → EachAfter Fits before xs → EachAfter Fits (before ++ xs) ys → EachAfter Fits before (xs ++ ys)
-EachAfter-append Fits before [] ys first second = subst (λ l. EachAfter Fits l ys) (append-nil before) second
-EachAfter-append Fits before (x ∷ xs) ys first second = (
-  first.0,
-  EachAfter-append Fits (before ++ x ∷ []) xs ys first.1
-      (subst (λ l. EachAfter Fits l ys) (sym (append_assoc before (x ∷ []) xs)) second),
 )
 
 -- an item that was read

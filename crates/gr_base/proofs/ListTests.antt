@@ -5,7 +5,7 @@ use Rattle.std.specs.List.{list_all}
 use Rattle.std.proofs.lemmas.Bool.{and_parts, and_from, leb-true, le-leb, not-true, false_from_ne_true, not_from_false, both_ways}
 use Rattle.std.proofs.lemmas.List.Elements.{All-nil, All-cons, All-head, All-tail}
 use Rattle.std.proofs.lemmas.Slice.Eq.{bytes_eq-Decides}
-use Rattle.gr_base.specs.Lists.{Within, is_within}
+use Rattle.gr_base.specs.Prelude.{Within, is_within}
 
 -- a number in a range
 pub Within-is_within : (low high n : ℕ) → is_within low high n ≡ true → Within low high n

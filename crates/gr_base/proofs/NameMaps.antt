@@ -7,7 +7,7 @@ use Rattle.std.specs.Ordering.{nat_cmp}
 use Rattle.std.specs.Cmp.Lexicographic.{slice_cmp}
 use Rattle.std.specs.BTreeMap.{BTreeMap, get, is_at}
 use Rattle.std.proofs.lemmas.Map.Text.{is_eq-slice_cmp}
-use Rattle.gr_base.specs.NameMaps.{found_under}
+use Rattle.gr_base.specs.Prelude.{found_under}
 
 -- the order of names
 abbrev pub key_cmp : Bor (List ℕ) → Bor (List ℕ) → Ordering

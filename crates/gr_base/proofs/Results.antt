@@ -1,7 +1,7 @@
 -- Steps in a chain, each of which may fail: what is known of the value if none failed.
 use Rattle.std.proofs.Common.{◌≡◌, Bool, true, false, cond, Option, Some, None, Result, Ok, Err, refl, subst}
-use Rattle.std.specs.Prelude.{ok_or, option_map}
-use Rattle.gr_base.specs.Results.{◌>>=◌}
+use Rattle.std.specs.Prelude.{option_map}
+use Rattle.gr_base.specs.Prelude.{◌>>=◌}
 
 -- if there is no error, the value has a property
 pub record IfRead {X E : Type 0} (r : Result X E) (P : X → Type 0) : Type 0 where
@@ -41,12 +41,6 @@ pub read_unless : {X E : Type 0} (b : Bool) (e : E) (r : Result X E) (P : X → 
 read_unless true e r P h = read_err e P
 read_unless false e r P h = h refl
 
--- a value that may be missing
-pub read_named : {X E : Type 0} (o : Option X) (e : E) (Q : X → Type 0)
-    → ((x : X) → o ≡ Some x → Q x) → IfRead (ok_or o e) Q
-read_named None e Q h = read_err e Q
-read_named (Some x) e Q h = read_ok x Q (h x refl)
-
 -- a weaker property of the value
 pub read_weaker : {X E : Type 0} (r : Result X E) (P Q : X → Type 0) → IfRead r P → ((x : X) → P x → Q x) → IfRead r Q
 read_weaker r P Q h k = record { then = λ x e. k x (h.then x e) }
@@ -56,9 +50,3 @@ pub mapped : {X Y : Type 0} (o : Option X) (f : X → Y) (Q : X → Type 0) (P :
     → ((x : X) → o ≡ Some x → Q x) → ((x : X) → Q x → P (f x)) → (y : Y) → option_map f o ≡ Some y → P y
 mapped None f Q P h k y e = absurd cc
 mapped (Some x) f Q P h k y e = subst P (some_is (f x) y e) (k x (h x refl))
-
--- one of two values that may be missing
-pub by_test : {X : Type 0} (b : Bool) (x y : Option X) (P : X → Type 0)
-    → ((z : X) → x ≡ Some z → P z) → ((z : X) → y ≡ Some z → P z) → (z : X) → cond b x y ≡ Some z → P z
-by_test true x y P h k = h
-by_test false x y P h k = k

@@ -5,3 +5,4 @@ pub mod Results
 pub mod Lists
 pub mod NameMaps
 pub mod Numerals
+pub mod Prelude

@@ -10,12 +10,11 @@ use Rattle.std.specs.Option.{option_map}
 use Rattle.std.specs.Ordering.{nat_cmp, eq_by_cmp}
 use Rattle.std.specs.Cmp.Lexicographic.{slice_cmp, texts_ties, nat_list_cmp_total}
 use Rattle.std.specs.FinMap.{get, from_entries, same_map, get-from_entries, get-insert, from_entries_push, slice_cmp-IsAntisymmetric, nat_cmp-IsAntisymmetric}
-use Rattle.std.specs.FinMap.Entries as entries
 use Rattle.std.specs.Str.{bytes_eq}
 use Rattle.std.proofs.lemmas.Slice.Eq.{bytes_eq-Decides}
 use Rattle.gr_outside.specs.declared.files.File.{File}
-use Rattle.gr_outside.specs.Shelf.{with_file}
-use Rattle.gr_outside.specs.Files.{entry_of, files_of, is_named}
+use Rattle.gr_outside.specs.Prelude.{with_file, entry_of, files_of, is_named}
+use Rattle.std.specs.FinMap.Entries as entries
 
 -- the contents of a file
 abbrev contents : File → List ℕ

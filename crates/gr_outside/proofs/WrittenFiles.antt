@@ -3,7 +3,7 @@ use Rattle.std.proofs.Common.{◌≡◌, ℕ, Bool, true, false, cond, List, Opt
 use Rattle.std.specs.Ordering.{nat_cmp, eq_by_cmp}
 use Rattle.std.specs.Cmp.Lexicographic.{slice_cmp, nat_list_cmp_total}
 use Rattle.std.specs.FinMap.{get, remove, same_map, get-insert, get-remove, slice_cmp-IsAntisymmetric, nat_cmp-IsAntisymmetric}
-use Rattle.gr_outside.specs.Shelf.{Files, with_file}
+use Rattle.gr_outside.specs.Prelude.{Files, with_file}
 
 covered : (same : Bool) (there : Option (List ℕ)) (bytes : List ℕ)
     → cond same None (cond same (Some bytes) there) ≡ cond same None there

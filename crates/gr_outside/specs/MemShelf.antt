@@ -1,6 +1,5 @@
 -- How contracts see a shelf in memory that fails at chosen calls. (This project's profile.)
-use Rattle.std.specs.Prelude.{ℕ, List, if◌then◌else◌}
-use Rattle.std.specs.Prelude.{refl}
+use Rattle.std.specs.Prelude.{ℕ, List, if◌then◌else◌, refl}
 use Rattle.std.specs.Coded.{Coded, code_by, coded×, coded_ℕ, coded_list}
 use Rattle.gr_outside.specs.Shelf.{Files, files_code, with_file}
 use Rattle.gr_base.specs.Calls.{Calls, next_fails, after_call, one_more}

@@ -1,5 +1,5 @@
 ghost use Rattle.std.specs.Prelude.{◌≡◌, [], ◌∷◌, ◌++◌, IfOk, Some};
-ghost use Rattle.gr_base.specs.Added.{Adds};
+ghost use Rattle.gr_base.specs.Prelude.{Adds};
 ghost use Rattle.gr_outside.specs.Notes.{calls_of};
 
 use crate::shelf::{Shelf, ShelfError};

@@ -1,6 +1,6 @@
 ghost use Rattle.std.specs.FinMap.{get};
 ghost use Rattle.std.specs.Prelude.{◌≡◌, ◌≢◌, ◌≤◌, ◌↔◌, IfOk, IsTrue, None, OnErr, OnOk, Some, not, option_copied};
-ghost use Rattle.gr_base.specs.Calls.{next_fails};
+ghost use Rattle.gr_base.specs.Prelude.{next_fails};
 ghost use Rattle.gr_outside.specs.Files.{are_distinct, files_of};
 ghost use Rattle.gr_outside.specs.MemShelf.{after_read, after_refused_write, after_write};
 ghost use Rattle.gr_outside.specs.Shelf.{SameBut, front_of};

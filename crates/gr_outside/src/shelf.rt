@@ -1,8 +1,7 @@
 ghost use Rattle.std.specs.Prelude.{◌≡◌, ◌≢◌, ◌⊎◌, ◌≤◌, ◌^◌, ◌-◌, ℕ, List, [], ◌∷◌, Option, Some, None, IfOk, IfSome, MatchOption, OnOk, OnErr, is_ok, is_some, vec_len};
 ghost use Rattle.std.specs.Option.{option_map};
 ghost use Rattle.std.specs.FinMap.{get};
-ghost use Rattle.gr_base.specs.Added.{Adds};
-ghost use Rattle.gr_base.specs.Counts.{Rose};
+ghost use Rattle.gr_base.specs.Prelude.{Adds, Rose};
 ghost use Rattle.gr_outside.specs.Shelf.{ShelfCall, ShelfSeen, front_of, read_of, with_file, write_of, SameBut};
 ghost use Rattle.gr_outside.specs.declared.shelf.ShelfError.TheVariants.{Memory};
 

@@ -1,6 +1,5 @@
 ghost use Rattle.std.specs.Prelude.{◌≡◌, ◌≤◌, ◌^◌, ◌-◌, ℕ, List, Option, None, IfSome, OnOk, OnErr, length};
-ghost use Rattle.gr_base.specs.Counts.{Rose};
-ghost use Rattle.gr_base.specs.Added.{Adds, AddsLess};
+ghost use Rattle.gr_base.specs.Prelude.{Rose, Adds, AddsLess};
 ghost use Rattle.gr_outside.specs.Sink.{SinkSeen};
 
 use thiserror::Error;

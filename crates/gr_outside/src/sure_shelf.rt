@@ -1,6 +1,6 @@
 ghost use Rattle.std.specs.FinMap.{get};
 ghost use Rattle.std.specs.Prelude.{◌≡◌, ◌≢◌, ◌≤◌, ◌↔◌, IfOk, IsTrue, None, OnErr, OnOk, Some};
-ghost use Rattle.gr_base.specs.Calls.{one_more};
+ghost use Rattle.gr_base.specs.Prelude.{one_more};
 ghost use Rattle.gr_outside.specs.Files.{are_distinct, files_of};
 ghost use Rattle.gr_outside.specs.Shelf.{SameBut, front_of, with_file};
 

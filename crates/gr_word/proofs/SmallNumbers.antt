@@ -5,7 +5,7 @@ use Rattle.std.proofs.lemmas.Bool.{ne_eqb}
 use Rattle.std.proofs.lemmas.Int.{to_z_pos, int_wrap_fits}
 use Rattle.std.proofs.lemmas.Nat.{and_mask, pow_pos}
 use Rattle.gr_word.specs.declared.operations.Op.TheVariants.{Add, Remu, And, Shr}
-use Rattle.gr_word.specs.Words.{applied, unsigned_of}
+use Rattle.gr_word.specs.Prelude.{applied, unsigned_of}
 
 -- a small number read as a signed one
 cast-small : (n : ℕ) → n < 2 ^ 63 → cast_signed w64 n ≡ pos n

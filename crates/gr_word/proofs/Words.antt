@@ -9,7 +9,7 @@ use Rattle.std.proofs.Math.Nat.{mod-lt, div-le_self}
 use Rattle.std.proofs.lemmas.Nat.{pow_pos}
 use Rattle.gr_word.specs.declared.operations.Op.{Op}
 use Rattle.gr_word.specs.declared.operations.Op.TheVariants.{Add, Sub, Mul, Div, Rem, Remu, And, Or, Xor, Shl, Shr}
-use Rattle.gr_word.specs.Words.{IsWord, applied, is_zero, unless_zero, unsigned_of}
+use Rattle.gr_word.specs.Prelude.{IsWord, applied, is_zero, unless_zero, unsigned_of}
 
 -- a number below 2^64 is a word if it is read as a signed number
 IsWord-cast : (n : ℕ) → n < 2 ^ 64 → IsWord (cast_signed w64 n)
@@ -46,9 +46,6 @@ IsWord-quotient a b fits =
 
 -- an operation on words results in a word
 pub IsWord-applied : (op : Op) (a b : ℤ) → IsWord a → IsWord b → IsWord (applied op a b)
-IsWord-applied Add a b fa fb = SFits-int_wrap w64 _
-IsWord-applied Sub a b fa fb = SFits-int_wrap w64 _
-IsWord-applied Mul a b fa fb = SFits-int_wrap w64 _
 IsWord-applied Div a b fa fb = IsWord-unless b _ _ (IsWord-quotient a b fa) (sfits_lit tt)
 IsWord-applied Rem a b fa fb = IsWord-unless b _ _ (IsWord-below (int_rem a b) a (mag_rem a b) fa) fa
 IsWord-applied Remu a b fa fb = IsWord-unless b _ _ (sfits_to_z (Fits-mod (unsigned_of b) (Fits-of_z fa))) fa
@@ -57,3 +54,4 @@ IsWord-applied Or a b fa fb = sfits_to_z (Fits-or (Fits-of_z fa) (Fits-of_z fb))
 IsWord-applied Xor a b fa fb = sfits_to_z (Fits-xor (Fits-of_z fa) (Fits-of_z fb))
 IsWord-applied Shl a b fa fb = IsWord-cast _ (mod-lt _ (pow_pos 64))
 IsWord-applied Shr a b fa fb = IsWord-below _ a (mag_shr a (2 ^ (unsigned_of b % 64))) fa
+IsWord-applied other a b fa fb = SFits-int_wrap w64 _

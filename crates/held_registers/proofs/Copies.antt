@@ -4,17 +4,13 @@ use Rattle.std.proofs.Common.{◌≡◌, ℕ, ◌<◌, Bool, true, false, ◌||�
 use Rattle.std.specs.Int.{w64, int_wrap}
 use Rattle.std.proofs.lemmas.Int.{int_wrap_fits}
 use Rattle.std.proofs.Math.IntN.{+ℤ_idr, +ℤ_invr}
-use Rattle.gr_word.specs.Words.{applied, IsWord}
+use Rattle.gr_word.specs.Prelude.{applied, IsWord}
 use Rattle.gr_word.specs.declared.operations.Op.TheVariants.{Add, Sub}
 use Rattle.lt_isa.specs.declared.instructions.Instr.TheVariants.{Alu}
-use Rattle.lt_isa.specs.Object.{Parts}
-use Rattle.lt_isa.specs.Ranges.{IsInRange}
-use Rattle.lt_isa.specs.Machine.{State, register}
-use Rattle.lt_isa.specs.Shape.{IsShaped}
-use Rattle.symbolic_values.specs.Trees.{Value}
-use Rattle.trace_patterns.specs.Single.{applied_trees}
-use Rattle.stretches.specs.Standing.{StandsAt}
-use Rattle.stretches.specs.Coming.{RunsThrough, Sets}
+use Rattle.lt_isa.specs.Prelude.{Parts, IsInRange, State, register, IsShaped}
+use Rattle.symbolic_values.specs.Prelude.{Value}
+use Rattle.trace_patterns.specs.Prelude.{applied_trees}
+use Rattle.stretches.specs.Prelude.{StandsAt, RunsThrough, Sets}
 use Rattle.stretches.proofs.RunningThrough.{runs-one, sets-alu}
 
 -- a word and 0

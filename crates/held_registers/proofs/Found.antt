@@ -9,7 +9,7 @@ use Rattle.std.proofs.lemmas.List.Quantifiers.{position-Some}
 use Rattle.std.proofs.lemmas.Option.{slice_get-get_or}
 use Rattle.held_registers.specs.declared.registers.Held.{Held}
 use Rattle.held_registers.specs.declared.registers.Held.TheVariants.{SecretZero, Number, Scalar}
-use Rattle.held_registers.specs.Held.{held_at, is_number, is_scalar, register_of_number, register_of_scalar}
+use Rattle.held_registers.specs.Prelude.{held_at, is_number, is_scalar, register_of_number, register_of_scalar}
 
 -- registers below 19 hold nothing for the whole run
 pub held-high : (held : List Held) (r : ℕ) (h : Held) → held_at held r ≡ Some h → 19 ≤ r

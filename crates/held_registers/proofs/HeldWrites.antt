@@ -2,10 +2,10 @@
 use Rattle.std.proofs.Common.{◌≡◌, ◌≢◌, ℕ, ◌<◌, ℤ, pos, List, [], length, Option, Some, get_or, set, sym, ap, refl, ◌∙◌, ⊎_elim, get_or-set_same, get_or-set_other}
 use Rattle.std.proofs.lemmas.Bool.{cases_eq}
 use Rattle.src_tree.specs.declared.trees.Decl.{Decl}
-use Rattle.src_tree.specs.Meaning.{Store, words_of_number, scalar, scalar_set}
+use Rattle.src_tree.specs.Prelude.{Store, words_of_number, scalar, scalar_set}
 use Rattle.held_registers.specs.declared.registers.Held.{Held}
 use Rattle.held_registers.specs.declared.registers.Held.TheVariants.{SecretZero, Number, Scalar}
-use Rattle.held_registers.specs.Held.{held_at, word_held, IsSoundHeld}
+use Rattle.held_registers.specs.Prelude.{held_at, word_held, IsSoundHeld}
 
 -- a scalar is set, and others are as before
 scalar-same : (store : Store) (n : ℕ) (word : ℤ) → n < length store → 0 < length (words_of_number store n)

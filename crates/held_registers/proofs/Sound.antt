@@ -4,11 +4,11 @@ use Rattle.std.specs.Prelude.{nat_lt, is_none, is_some, if◌then◌else◌}
 use Rattle.std.specs.List.{slice_get, position}
 use Rattle.std.specs.Option.{option_map}
 use Rattle.std.proofs.lemmas.Bool.{ltb-true, ltb-false}
-use Rattle.gr_word.specs.Words.{IsWord}
+use Rattle.gr_word.specs.Prelude.{IsWord}
 use Rattle.src_tree.specs.declared.trees.Decl.{Decl}
 use Rattle.held_registers.specs.declared.registers.Held.{Held}
 use Rattle.held_registers.specs.declared.registers.Held.TheVariants.{SecretZero, Number, Scalar}
-use Rattle.held_registers.specs.Held.{is_number, held_at, secret_zero, public_zero, register_of_number, with_scalar, scalars_behind, zeros, held_scalars, with_number, IsSoundHeld}
+use Rattle.held_registers.specs.Prelude.{is_number, held_at, secret_zero, public_zero, register_of_number, with_scalar, scalars_behind, zeros, held_scalars, with_number, IsSoundHeld}
 
 -- an item is still there if more follow
 more-get : {X : Type 0} (xs ys : List X) (j : ℕ) (y : X) → slice_get xs j ≡ Some y → slice_get (xs ++ ys) j ≡ Some y

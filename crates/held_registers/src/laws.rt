@@ -1,5 +1,5 @@
 ghost use Rattle.std.specs.Prelude.{◌≡◌, ◌<◌, ℕ, ℤ, List, [], length};
-ghost use Rattle.gr_word.specs.Words.{IsWord};
+ghost use Rattle.gr_word.specs.Prelude.{IsWord};
 ghost use Rattle.src_tree.specs.declared.trees.Decl.{Decl};
 ghost use Rattle.held_registers.specs.declared.registers.Held.{Held};
 ghost use Rattle.held_registers.specs.Held.{IsSoundHeld, held_scalars, with_number};

@@ -4,25 +4,19 @@ use Rattle.std.proofs.lemmas.List.Elements.{Contains-append_cases, Contains-appe
 use Rattle.std.proofs.lemmas.List.Sums.{sum_by-cons}
 use Rattle.std.proofs.lemmas.Option.{slice_get_within}
 use Rattle.lt_isa.specs.declared.instructions.Instr.{Instr}
-use Rattle.lt_isa.specs.Machine.{State, Observed, Halted}
-use Rattle.lt_isa.specs.Object.{Parts}
-use Rattle.lt_isa.specs.Shape.{IsShaped}
-use Rattle.lt_isa.specs.Step.{Goes, step, step_start}
-use Rattle.lt_isa.specs.Trace.{Stamped, seen_at, stamped, trace_from, final_from}
+use Rattle.lt_isa.specs.Prelude.{State, Observed, Halted, Parts, IsShaped, Goes, step, step_start, Stamped, seen_at, stamped, trace_from, final_from}
 use Rattle.lt_isa.proofs.Ends.{step-no_halt, stamped-halt}
 use Rattle.lt_isa.proofs.Runs.{trace_from-past, trace_from-goes, trace_from-stops, trace_from-faults, final_from-past, final_from-goes, final_from-faults}
 use Rattle.lt_isa.proofs.Shapes.{step-shaped}
 use Rattle.lt_isa.proofs.Steps.{step_start-least, step-later}
 use Rattle.processor.specs.declared.ends.End.{End}
-use Rattle.processor.specs.declared.ends.End.TheVariants as end
-use Rattle.processor.specs.Ends.{EndsAs}
-use Rattle.line_costs.specs.Costs.{AddsUp, Begun, CountsSteps, EndsIn, Taken, Then, accesses_in, accesses_made, accesses_of, end_cycle, is_access, padding_in, part_of, taken_by, total}
-use Rattle.line_costs.specs.Counting.{CountedSoFar, added}
-use Rattle.line_costs.specs.Steps.{EndsThere, StepsOnce, StopsOnce, next_of}
+use Rattle.processor.specs.Prelude.{EndsAs}
+use Rattle.line_costs.specs.Prelude.{Begun, Taken, Then, accesses_in, accesses_made, accesses_of, end_cycle, is_access, padding_in, part_of, taken_by, total, CountedSoFar, added, EndsThere, StepsOnce, StopsOnce, next_of}
 use Rattle.line_costs.specs.declared.costs.Costs.{Costs}
 use Rattle.line_costs.specs.declared.costs.Part.{Part}
 use Rattle.line_costs.proofs.OneStep.{goes-accesses, halts-at_once, moves-so}
 use Rattle.line_costs.proofs.Rows.{adds-next, adds-none, count-most}
+use Rattle.processor.specs.declared.ends.End.TheVariants as end
 
 -- some events without a halt, followed by others, end as the others do
 ends-behind : (es fs : List Stamped) (how : End) → EndsAs es end.Spent → EndsAs fs how → EndsAs (es ++ fs) how
@@ -155,15 +149,6 @@ module _ (o : Parts) (s : State) (n : ℕ) (parts : List Part) (rows : ℕ) (now
       let most = count-most before.padding.items part.row (in-length before.padding.items so_far.padding.count) in
       omega (arith, most, so_far.padding.all, so_far.padded, once.took_is, once.fits)
 
-  -- each row has a count
-  pub rows-within : (part.row < length before.cycles.items) × (part.row < length before.accesses.items)
-      × (part.row < length before.padding.items)
-  rows-within = (
-    in-length before.cycles.items so_far.cycles.count,
-    in-length before.accesses.items so_far.accesses.count,
-    in-length before.padding.items so_far.padding.count,
-  )
-
   pub place-next : (place place' : ℕ) → place ≡ now.place → place' ≡ next_of o place i took → place' ≡ next.place
   place-next place place' here is =
       let moved = moves-so o slow now i once.here once.event next once.goes in
@@ -225,25 +210,8 @@ module _ (o : Parts) (s : State) (n : ℕ) (parts : List Part) (rows : ℕ) (now
       (subst (λ es. EndsAs es (end.Halted at)) (sym (halt-shown at stops))
       ((0, omega arith, refl), λ other. stamped-halt at other))
 
-  pub halt-cycles : (at : ℕ) (last : State) → StopsOnce o now n at
-      → total costs.cycles.items ≡ end_cycle (end.Halted at) last
-  halt-cycles at last stops = so_far.cycles.all ∙ so_far.elapsed ∙ stops.at_is
-
   pub halt-accesses : (at : ℕ) → StopsOnce o now n at
       → total costs.accesses.items ≡ accesses_of (trace_from o s n)
   halt-accesses at stops =
       let none : accesses_of (trace_from o now n) ≡ 0 = ap accesses_of (halt-shown at stops) in
       so_far.accesses.all ∙ omega (arith, so_far.shown, none)
-
-  -- the steps that were counted are all
-  pub counts-all : (all : Costs) → all.cycles.items ≡ costs.cycles.items → all.accesses.items ≡ costs.accesses.items
-      → all.padding.items ≡ costs.padding.items → EndsIn o now n all.end → CountsSteps o s n parts rows all
-  counts-all all cycles accesses padding ended = record {
-    taken = so_far.taken;
-    last = now;
-    run = so_far.run;
-    ended = ended;
-    cycles = subst (AddsUp parts rows (λ x. x.cycles) so_far.taken) (sym cycles) so_far.cycles;
-    accesses = subst (AddsUp parts rows (λ x. x.accesses) so_far.taken) (sym accesses) so_far.accesses;
-    padding = subst (AddsUp parts rows (padding_in parts rows) so_far.taken) (sym padding) so_far.padding;
-  }

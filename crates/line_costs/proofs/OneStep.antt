@@ -4,24 +4,17 @@ use Rattle.std.proofs.Math.Nat.{min-le_right}
 use Rattle.std.proofs.lemmas.Bool.{cond_below, cond_above}
 use Rattle.std.proofs.lemmas.List.{append-nil}
 use Rattle.std.specs.Prelude.{slice_get}
-use Rattle.gr_word.specs.Words.{compared}
+use Rattle.gr_word.specs.Prelude.{compared}
 use Rattle.lt_isa.specs.declared.instructions.Instr.{Instr}
 use Rattle.lt_isa.specs.declared.instructions.Instr.TheVariants.{Nop, Halt, Li, Alu, Ldb, Stb, Idb, Ldw, Stw, Jmp, Br}
-use Rattle.lt_isa.specs.Machine.{State, Observed, RamRead, RamWrite, EncRead, EncWrite, Oram, Halted, register, slot}
-use Rattle.lt_isa.specs.Object.{Parts}
-use Rattle.lt_isa.specs.Ranges.{IsInRange}
-use Rattle.lt_isa.specs.Shape.{IsShaped}
-use Rattle.lt_isa.specs.Step.{StepResult, Goes, Stops, Faults, executed, step, step_start}
-use Rattle.lt_isa.specs.Trace.{stamped, trace_from, final_from, HaltsAt}
+use Rattle.lt_isa.specs.Prelude.{State, Observed, RamRead, RamWrite, EncRead, EncWrite, Oram, Halted, register, slot, Parts, IsInRange, IsShaped, StepResult, Goes, Stops, Faults, executed, step, step_start, stamped, trace_from, final_from, HaltsAt}
 use Rattle.lt_isa.proofs.Ends.{step-no_halt, stamped-halt}
 use Rattle.lt_isa.proofs.Runs.{trace_from-past, trace_from-goes, trace_from-stops, trace_from-faults, final_from-past, final_from-goes, final_from-faults}
 use Rattle.lt_isa.proofs.Steps.{OnStepResult, on_goes, on_stops, on_step, on_bound, on_choice, step-at, step_start-at, step_start-least, step-later}
 use Rattle.processor.specs.declared.ends.End.{End}
+use Rattle.processor.specs.Prelude.{EndsAs, PausesAt}
+use Rattle.line_costs.specs.Prelude.{accesses_in, accesses_made, is_access, next_of}
 use Rattle.processor.specs.declared.ends.End.TheVariants as end
-use Rattle.processor.specs.Ends.{EndsAs}
-use Rattle.processor.specs.Pauses.{PausesAt}
-use Rattle.line_costs.specs.Costs.{accesses_in, accesses_made, is_access}
-use Rattle.line_costs.specs.Steps.{next_of}
 
 -- ---- what a run up to the cycle after the next step's start says of that step
 
@@ -144,18 +137,14 @@ module _ (o : Parts) (fits : IsInRange o) (s : State) (shaped : IsShaped o s) wh
 
 executed-halts : (o : Parts) (s : State) (i : Instr) → slice_get o.code s.place ≡ Some i
     → OnStepResult (λ event t. Unit {0}) (λ t. step_start o s ≡ s.cycle) (executed o s i)
-executed-halts o s Nop at = tt
 executed-halts o s Halt at = step_start-at o s Halt at
-executed-halts o s (Li rd value) at = tt
-executed-halts o s (Alu op rd ra rb) at = tt
-executed-halts o s (Ldb k b r) at = tt
 executed-halts o s (Stb k) at = on_bound _ _ (slot s k) _ (λ b a words bound. tt)
 executed-halts o s (Idb rd k) at = on_bound _ _ (slot s k) _ (λ b a words bound. tt)
 executed-halts o s (Ldw rd k ro) at = on_bound _ _ (slot s k) _ (λ b a words bound. tt)
 executed-halts o s (Stw rs k ro) at = on_bound _ _ (slot s k) _ (λ b a words bound. tt)
-executed-halts o s (Jmp offset) at = tt
 executed-halts o s (Br cmp ra rb offset) at =
     on_choice _ _ (compared cmp (register s ra) (register s rb)) _ _ tt tt
+executed-halts o s other at = tt
 
 pub halts-at_once : (o : Parts) (s last : State) → step o s ≡ Stops last → step_start o s ≡ s.cycle
 halts-at_once o s last stops = on_stops _ _ (step o s) last (on_step _ _ o s (executed-halts o s)) stops
@@ -168,20 +157,16 @@ MovesSo o s i event t =
 
 executed-moves : (o : Parts) → 2 ≤ o.profile.taken → (s : State) (i : Instr)
     → OnStepResult (MovesSo o s i) (λ t. Unit {0}) (executed o s i)
-executed-moves o slow s Nop = (refl, refl)
 executed-moves o slow s Halt = tt
-executed-moves o slow s (Li rd value) = (refl, refl)
-executed-moves o slow s (Alu op rd ra rb) = (refl, refl)
-executed-moves o slow s (Ldb k b r) = (refl, refl)
 executed-moves o slow s (Stb k) = on_bound _ _ (slot s k) _ (λ b a words bound. (refl, refl))
 executed-moves o slow s (Idb rd k) = on_bound _ _ (slot s k) _ (λ b a words bound. (refl, refl))
 executed-moves o slow s (Ldw rd k ro) = on_bound _ _ (slot s k) _ (λ b a words bound. (refl, refl))
 executed-moves o slow s (Stw rs k ro) = on_bound _ _ (slot s k) _ (λ b a words bound. (refl, refl))
-executed-moves o slow s (Jmp offset) = (refl, refl)
 executed-moves o slow s (Br cmp ra rb offset) =
     on_choice _ _ (compared cmp (register s ra) (register s rb)) _ _
     (cond_below 1 ((s.cycle + o.profile.taken) - s.cycle) _ _ (omega (arith, slow)), refl)
     (cond_above 1 ((s.cycle + 1) - s.cycle) _ _ _ (omega arith) refl, refl)
+executed-moves o slow s other = (refl, refl)
 
 pub moves-so : (o : Parts) → 2 ≤ o.profile.taken → (s : State) (i : Instr) → slice_get o.code s.place ≡ Some i
     → (event : Option Observed) (t : State) → step o s ≡ Goes event t
@@ -192,9 +177,5 @@ moves-so o slow s i at event t goes =
 -- the event of a step after which the run continues is an access
 pub goes-accesses : (o : Parts) (s : State) (event : Observed) (t : State) → step o s ≡ Goes (Some event) t
     → is_access event ≡ true
-goes-accesses o s (RamRead block words) t goes = refl
-goes-accesses o s (RamWrite block words) t goes = refl
-goes-accesses o s (EncRead block) t goes = refl
-goes-accesses o s (EncWrite block) t goes = refl
-goes-accesses o s (Oram bank) t goes = refl
 goes-accesses o s Halted t goes = absurd (step-no_halt o s (Some Halted) t 0 0 goes (0, omega arith, refl))
+goes-accesses o s other t goes = refl

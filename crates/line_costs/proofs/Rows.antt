@@ -5,8 +5,7 @@ use Rattle.std.proofs.lemmas.List.{get_or-set_same, get_or-set_other, length-set
 use Rattle.std.proofs.lemmas.List.Folds.{sum_by-replicate}
 use Rattle.std.proofs.lemmas.List.Sums.{sum_by-cons, sum_by-set, get_or-le-sum_by}
 use Rattle.std.specs.Prelude.{sum_by}
-use Rattle.line_costs.specs.Costs.{AddsUp, Taken, in_row, part_of, total}
-use Rattle.line_costs.specs.Counting.{added}
+use Rattle.line_costs.specs.Prelude.{AddsUp, Taken, in_row, part_of, total, added}
 use Rattle.line_costs.specs.declared.costs.Part.{Part}
 
 -- nothing is counted yet

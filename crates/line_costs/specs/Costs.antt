@@ -7,35 +7,23 @@ use Rattle.lt_isa.specs.Object.{Parts}
 use Rattle.lt_isa.specs.Step.{Goes, Stops, Faults, step, step_start}
 use Rattle.lt_isa.specs.Trace.{Stamped}
 use Rattle.processor.specs.declared.ends.End.{End}
-use Rattle.processor.specs.declared.ends.End.TheVariants as end
 use Rattle.line_costs.specs.declared.costs.Costs.{Costs}
 use Rattle.line_costs.specs.declared.costs.Part.{Part}
+use Rattle.processor.specs.declared.ends.End.TheVariants as end
 
 -- how many of some events are accesses to memory
 abbrev pub is_access : Observed → Bool
-is_access (RamRead block words) = true
-is_access (RamWrite block words) = true
-is_access (EncRead block) = true
-is_access (EncWrite block) = true
-is_access (Oram bank) = true
 is_access Halted = false
+is_access other = true
 
 abbrev pub accesses_of : List Stamped → ℕ
 accesses_of events = count_by (λ s. is_access s.event) events
 
 -- how many accesses an instruction makes
 abbrev pub accesses_made : Instr → ℕ
-accesses_made Nop = 0
-accesses_made Halt = 0
-accesses_made (Li rd value) = 0
-accesses_made (Alu op rd ra rb) = 0
 accesses_made (Ldb k b r) = 1
 accesses_made (Stb k) = 1
-accesses_made (Idb rd k) = 0
-accesses_made (Ldw rd k ro) = 0
-accesses_made (Stw rs k ro) = 0
-accesses_made (Jmp offset) = 0
-accesses_made (Br cmp ra rb offset) = 0
+accesses_made other = 0
 
 -- What a step of a run takes: the place of its instruction, the cycles from the state before it to the state after it,
 -- with those that an access waits, and the accesses that it shows.

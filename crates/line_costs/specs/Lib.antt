@@ -1,3 +1,4 @@
 pub mod Costs
 pub mod Counting
 pub mod Steps
+pub mod Prelude

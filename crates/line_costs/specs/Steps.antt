@@ -12,17 +12,9 @@ use Rattle.line_costs.specs.declared.single_steps.Went.TheVariants as went
 
 -- The place after an instruction that takes this many cycles. A branch that takes more than one is taken.
 abbrev pub next_of : Parts → ℕ → Instr → ℕ → ℕ
-next_of o place Nop took = place + 1
-next_of o place Halt took = place + 1
-next_of o place (Li rd value) took = place + 1
-next_of o place (Alu op rd ra rb) took = place + 1
-next_of o place (Ldb k b r) took = place + 1
-next_of o place (Stb k) took = place + 1
-next_of o place (Idb rd k) took = place + 1
-next_of o place (Ldw rd k ro) took = place + 1
-next_of o place (Stw rs k ro) took = place + 1
 next_of o place (Jmp offset) took = target_of o place offset
 next_of o place (Br cmp ra rb offset) took = if nat_lt 1 took then target_of o place offset else place + 1
+next_of o place other took = place + 1
 
 -- one step that starts below cycle n, from a state to the next
 pub record StepsOnce (o : Parts) (s : State) (n : ℕ) (next : State) (i : Instr) (took : ℕ) : Type 0 where

@@ -1,6 +1,6 @@
 ghost use Rattle.std.specs.Prelude.{◌≡◌, ◌≤◌, ◌<◌, ◌+◌, ◌^◌, IfOk, IsTrue, false, if◌then◌else◌, length, slice_index, replicate};
-ghost use Rattle.lt_isa.specs.Trace.{final_from, trace_from};
-ghost use Rattle.processor.specs.Ends.{EndsAs};
+ghost use Rattle.lt_isa.specs.Prelude.{final_from, trace_from};
+ghost use Rattle.processor.specs.Prelude.{EndsAs};
 ghost use Rattle.line_costs.specs.Costs.{accesses_of, CountsSteps, end_cycle, part_of, total};
 ghost use Rattle.line_costs.specs.Counting.{added};
 

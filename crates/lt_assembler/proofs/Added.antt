@@ -7,16 +7,11 @@ use Rattle.std.specs.declared.cmp.Ordering.TheVariants.{Less, Equal, Greater}
 use Rattle.std.specs.Cmp.Lexicographic.{slice_cmp}
 use Rattle.std.proofs.lemmas.Bool.{leb-true}
 use Rattle.std.proofs.lemmas.Bool.Decides.{nat_tests}
-use Rattle.gr_base.specs.Lists.{Within}
+use Rattle.gr_base.specs.Prelude.{Within}
 use Rattle.lt_isa.specs.declared.profiles.Profile.{Profile}
 use Rattle.lt_isa.specs.declared.instructions.Instr.{Instr}
-use Rattle.lt_assembler.specs.Words.{Word}
-use Rattle.lt_assembler.specs.Instructions.{Coded, offset_to}
-use Rattle.lt_isa.specs.InstructionTable.{with_offset}
-use Rattle.lt_assembler.specs.Drafts.{Labels, Draft, empty_draft, place_of, with_label, has_code, takes_bank, takes_symbol, takes_code}
-use Rattle.lt_assembler.specs.Reading.{with_code}
-use Rattle.lt_assembler.specs.Items.{Target, ToPlace, ToLabel, Item, Nothing, AnObject, ABank, ASymbol, ALabel, ANote, AnInstruction}
-use Rattle.lt_assembler.specs.Spelled.{Stands, stage_behind}
+use Rattle.lt_assembler.specs.Prelude.{Word, Coded, offset_to, Labels, Draft, empty_draft, place_of, with_label, has_code, takes_bank, takes_symbol, takes_code, with_code, Target, ToPlace, ToLabel, Item, Nothing, AnObject, ABank, ASymbol, ALabel, ANote, AnInstruction, Stands, stage_behind}
+use Rattle.lt_isa.specs.Prelude.{with_offset}
 
 -- an instruction at a place, by its target
 abbrev pub coded_in : ℕ → Instr → Option Target → Coded
@@ -259,9 +254,5 @@ IsHeaded-added n (AnObject p) d h stands = λ e. absurd cc
 IsHeaded-added n (ABank b) d h stands = λ e. absurd (has_first d.profile (stage-is_some d stands.0) e)
 IsHeaded-added n (ASymbol s) d h stands =
     λ e. absurd (has_first d.profile (stage-is_some d (omega (arith, stands.0))) e)
-IsHeaded-added n (ALabel name) d h stands =
-    λ e. absurd (has_first d.profile (stage-is_some d (omega (arith, stands))) e)
-IsHeaded-added n (ANote mask claims) d h stands =
-    λ e. absurd (has_first d.profile (stage-is_some d (omega (arith, stands))) e)
-IsHeaded-added n (AnInstruction i t) d h stands =
+IsHeaded-added n other d h stands =
     λ e. absurd (has_first d.profile (stage-is_some d (omega (arith, stands))) e)

@@ -1,11 +1,9 @@
 -- What the result of a call that assembles a text says about the text.
 use Rattle.std.proofs.Common.{◌≡◌, ◌≢◌, ℕ, List, Result, Ok, Err, IfOk, MatchResult, refl, sym, ◌∙◌}
-use Rattle.lt_isa.specs.Object.{Parts}
+use Rattle.lt_isa.specs.Prelude.{Parts}
 use Rattle.lt_assembler.specs.declared.errors.AsmError.{AsmError}
 use Rattle.lt_assembler.specs.declared.errors.AsmError.TheVariants.{BadLine, BadNumber, UnknownName, TwiceNamed, OverLimit, Memory}
-use Rattle.lt_assembler.specs.Faults.{Finds}
-use Rattle.lt_assembler.specs.Assembled.{assembled}
-use Rattle.lt_assembler.specs.Spelled.{SpellsInText}
+use Rattle.lt_assembler.specs.Prelude.{Finds, assembled, SpellsInText}
 use Rattle.gr_base.proofs.Results.{ok_is}
 use Rattle.lt_assembler.proofs.Spelled.{assembled-spells}
 use Rattle.lt_assembler.proofs.SpelledRead.{spells-assembled}
@@ -19,11 +17,7 @@ is_spelled text (Err e) found = tt
 -- the only error for a text that encodes an object is that memory runs out
 only_memory : (e : AsmError) (o : Parts) (r : Result Parts AsmError) → r ≡ Ok o → (e ≢ Memory → r ≡ Err e) → e ≡ Memory
 only_memory Memory o r is found = refl
-only_memory (BadLine n) o r is found = absurd (let bad = found (λ same. cc) in cc)
-only_memory (BadNumber n) o r is found = absurd (let bad = found (λ same. cc) in cc)
-only_memory (UnknownName n) o r is found = absurd (let bad = found (λ same. cc) in cc)
-only_memory (TwiceNamed n) o r is found = absurd (let bad = found (λ same. cc) in cc)
-only_memory (OverLimit n) o r is found = absurd (let bad = found (λ same. cc) in cc)
+only_memory other o r is found = absurd (let bad = found (λ same. cc) in cc)
 
 -- the object that a text encodes is found
 pub is_only : (text : List ℕ) (r : Result Parts AsmError)

@@ -15,21 +15,16 @@ use Rattle.gr_word.specs.declared.variables.Label.{Label}
 use Rattle.gr_word.specs.declared.variables.Label.TheVariants.{Public, Secret}
 use Rattle.gr_word.specs.declared.variables.Shape.{Shape}
 use Rattle.gr_word.specs.declared.variables.Shape.TheVariants.{Scalar, Array}
-use Rattle.gr_word.specs.Names.{is_name}
-use Rattle.gr_word.specs.Words.{IsWord}
-use Rattle.gr_base.specs.Lists.{EachAfter}
+use Rattle.gr_word.specs.Prelude.{is_name, IsWord}
+use Rattle.gr_base.specs.Prelude.{EachAfter}
 use Rattle.lt_isa.specs.declared.profiles.Profile.{Profile}
 use Rattle.lt_isa.specs.declared.profiles.BankSpec.{BankSpec}
 use Rattle.lt_isa.specs.declared.symbols.Symbol.{Symbol}
 use Rattle.lt_isa.specs.declared.symbols.Note.{Note}
 use Rattle.lt_isa.specs.declared.instructions.Instr.{Instr}
 use Rattle.lt_isa.specs.declared.instructions.Instr.TheVariants.{Nop, Halt, Li, Alu, Ldb, Stb, Idb, Ldw, Stw, Jmp, Br}
-use Rattle.lt_isa.specs.Object.{Parts}
-use Rattle.lt_isa.specs.Ranges.{ProfileFits, BankFits, SymbolFits, NoteFits, InstrFits, IsOffset, IsInRange, is_slot_claim}
-use Rattle.lt_assembler.specs.Words.{Word, label_word, shape_word, register_word, bank_word, claim_word, offset_word}
-use Rattle.lt_isa.specs.InstructionTable.{op_word, cmp_word}
-use Rattle.lt_assembler.specs.Canonical.{cycles_words, window_words, object_words, words_for_bank, words_for_symbol, note_words, instruction_words, code_words, line, canonical}
-use Rattle.lt_isa.specs.Windows.{has_unit_period}
+use Rattle.lt_isa.specs.Prelude.{Parts, ProfileFits, BankFits, SymbolFits, NoteFits, InstrFits, IsOffset, IsInRange, is_slot_claim, op_word, cmp_word, has_unit_period}
+use Rattle.lt_assembler.specs.Prelude.{Word, label_word, shape_word, register_word, bank_word, claim_word, offset_word, cycles_words, window_words, object_words, words_for_bank, words_for_symbol, note_words, instruction_words, code_words, line, canonical}
 use Rattle.lt_assembler.proofs.PlainWords.{joined}
 use Rattle.lt_assembler.proofs.NumberWords.{hex_again, claim_below}
 use Rattle.lt_assembler.proofs.CanonicalWords.{HasSmallNumbers}

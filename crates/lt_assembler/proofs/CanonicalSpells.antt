@@ -5,20 +5,16 @@ use Rattle.std.proofs.lemmas.Bool.{eqb-true}
 use Rattle.std.proofs.lemmas.Bool.Decides.{nat_tests}
 use Rattle.std.proofs.lemmas.List.{append-nil}
 use Rattle.std.proofs.lemmas.List.Elements.{All-head, All-tail}
-use Rattle.gr_base.specs.Lists.{EachAfter}
+use Rattle.gr_base.specs.Prelude.{EachAfter}
 use Rattle.gr_base.proofs.AtLast.{at_last-push}
 use Rattle.lt_isa.specs.declared.profiles.Profile.{Profile}
 use Rattle.lt_isa.specs.declared.profiles.BankSpec.{BankSpec}
 use Rattle.lt_isa.specs.declared.symbols.Symbol.{Symbol}
 use Rattle.lt_isa.specs.declared.symbols.Note.{Note}
 use Rattle.lt_isa.specs.declared.instructions.Instr.{Instr}
-use Rattle.lt_isa.specs.Object.{Parts}
-use Rattle.lt_isa.specs.Ranges.{BankFits, SymbolFits, NoteFits, InstrFits, IsInRange, next_place}
+use Rattle.lt_isa.specs.Prelude.{Parts, BankFits, SymbolFits, NoteFits, InstrFits, IsInRange, next_place}
 use Rattle.lt_isa.proofs.NotePlaces.{notes-inside}
-use Rattle.lt_assembler.specs.Words.{Word}
-use Rattle.lt_assembler.specs.Canonical.{words_for_bank, words_for_symbol, note_words, instruction_words, code_words, object_lines, canonical}
-use Rattle.lt_assembler.specs.Items.{Item, AnObject, ABank, ASymbol, ANote, AnInstruction, WordsSpell, Object, Bank, Variable, Noted, Instruction}
-use Rattle.lt_assembler.specs.Spelled.{LinesSpell, StagesInOrder, place_after, gathered, bank_in, symbol_in, note_in, label_in, instruction_in, labels_in, AreOnce, ItemsSpell, SpellsInText}
+use Rattle.lt_assembler.specs.Prelude.{Word, words_for_bank, words_for_symbol, note_words, instruction_words, code_words, object_lines, canonical, Item, AnObject, ABank, ASymbol, ANote, AnInstruction, WordsSpell, Object, Bank, Variable, Noted, Instruction, LinesSpell, StagesInOrder, place_after, gathered, bank_in, symbol_in, note_in, label_in, instruction_in, labels_in, AreOnce, ItemsSpell, SpellsInText}
 use Rattle.lt_assembler.proofs.PlainWords.{AreLines, joined, lines_of, words_joined, ascii_joined}
 use Rattle.lt_assembler.proofs.CanonicalWords.{object_plain, bank_line_plain, symbol_plain, note_plain, instruction_plain}
 use Rattle.lt_isa.proofs.SymbolPlaces.{most_blocks-le}

@@ -15,21 +15,16 @@ use Rattle.gr_word.specs.declared.variables.Label.{Label}
 use Rattle.gr_word.specs.declared.variables.Label.TheVariants.{Public, Secret}
 use Rattle.gr_word.specs.declared.variables.Shape.{Shape}
 use Rattle.gr_word.specs.declared.variables.Shape.TheVariants.{Scalar, Array}
-use Rattle.gr_word.specs.Names.{is_name, is_name_byte}
-use Rattle.gr_word.specs.Words.{IsWord}
+use Rattle.gr_word.specs.Prelude.{is_name, is_name_byte, IsWord}
 use Rattle.lt_isa.specs.declared.profiles.Profile.{Profile}
 use Rattle.lt_isa.specs.declared.profiles.BankSpec.{BankSpec}
 use Rattle.lt_isa.specs.declared.symbols.Symbol.{Symbol}
 use Rattle.lt_isa.specs.declared.symbols.Note.{Note}
 use Rattle.lt_isa.specs.declared.instructions.Instr.{Instr}
 use Rattle.lt_isa.specs.declared.instructions.Instr.TheVariants.{Nop, Halt, Li, Alu, Ldb, Stb, Idb, Ldw, Stw, Jmp, Br}
-use Rattle.lt_isa.specs.Ranges.{ProfileFits, InstrFits, IsOffset, is_slot_claim}
-use Rattle.lt_isa.specs.InstructionTable.{op_word, cmp_word}
-use Rattle.lt_isa.specs.Windows.{HasUnitPeriod, has_unit_period}
+use Rattle.lt_isa.specs.Prelude.{ProfileFits, InstrFits, IsOffset, is_slot_claim, op_word, cmp_word, HasUnitPeriod, has_unit_period}
 use Rattle.lt_isa.proofs.Windows.{windowed}
-use Rattle.lt_assembler.specs.Words.{Word, label_word, shape_word, register_word, bank_word, claim_word, hex_word, offset_word}
-use Rattle.lt_assembler.specs.Lines.{has_bytes}
-use Rattle.lt_assembler.specs.Canonical.{cycles_words, window_words, profile_words, object_words, words_for_bank, words_for_symbol, note_words, instruction_words}
+use Rattle.lt_assembler.specs.Prelude.{Word, label_word, shape_word, register_word, bank_word, claim_word, hex_word, offset_word, has_bytes, cycles_words, window_words, profile_words, object_words, words_for_bank, words_for_symbol, note_words, instruction_words}
 use Rattle.lt_assembler.proofs.PlainWords.{is_plain, IsPlain, ArePlain}
 use Rattle.lt_assembler.proofs.NumberWords.{decimal_plain, hex_again}
 

@@ -2,8 +2,7 @@
 use Rattle.std.proofs.Common.{◌≡◌, ℕ, suc, ◌+◌, ◌≤◌, ◌<◌, List, [], ◌∷◌, ◌++◌, length, get_or, drop, Option, Some, None, refl, sym, ap, append_assoc, add-one, drop-cons}
 use Rattle.std.specs.Prelude.{option_map}
 use Rattle.std.proofs.lemmas.List.{append-nil, drop_all}
-use Rattle.lt_assembler.specs.Words.{Word}
-use Rattle.lt_assembler.specs.Operands.{claim_of, claims_of}
+use Rattle.lt_assembler.specs.Prelude.{Word, claim_of, claims_of}
 
 onto : (front : List ℕ) (claim : ℕ) (rest : Option (List ℕ))
     → option_map (λ (cs : List ℕ). front ++ cs) (option_map (λ (cs : List ℕ). claim ∷ cs) rest)

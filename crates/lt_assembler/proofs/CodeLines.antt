@@ -8,19 +8,13 @@ use Rattle.std.proofs.lemmas.Bool.Decides.{nat_tests}
 use Rattle.std.proofs.lemmas.List.Elements.{All-nil, All-cons, All-push, All-append}
 use Rattle.std.proofs.lemmas.List.{nil_from_length}
 use Rattle.std.proofs.lemmas.Map.Views.{All-values-insert_entry}
-use Rattle.gr_word.specs.Names.{is_name}
+use Rattle.gr_word.specs.Prelude.{is_name}
 use Rattle.lt_isa.specs.declared.symbols.Note.{Note}
-use Rattle.lt_isa.specs.Ranges.{NoteFits, InstrFits, next_place, is_slot_claim}
+use Rattle.lt_isa.specs.Prelude.{NoteFits, InstrFits, next_place, is_slot_claim}
 use Rattle.gr_base.proofs.EachAfter.{EachAfter-push}
 use Rattle.gr_base.proofs.AtLast.{at_last-push}
 use Rattle.lt_assembler.specs.declared.faults.Fault.TheVariants.{WrongForm, RepeatedName, Limit}
-use Rattle.lt_assembler.specs.Words.{Word, claim_word, hex_word}
-use Rattle.lt_assembler.specs.Numbers.{number_within}
-use Rattle.lt_assembler.specs.Operands.{claim_of, claims_of}
-use Rattle.lt_assembler.specs.Drafts.{Draft, place_of, takes_code, is_noted}
-use Rattle.lt_assembler.specs.Reading.{note_read, note_line, label_line, uses_of, with_code, code_line}
-use Rattle.lt_assembler.specs.Instructions.{Coded}
-use Rattle.lt_assembler.specs.Items.{ALabel, ANote, AnInstruction, Label, Noted}
+use Rattle.lt_assembler.specs.Prelude.{Word, claim_word, hex_word, number_within, claim_of, claims_of, Draft, place_of, takes_code, is_noted, note_read, note_line, label_line, uses_of, with_code, code_line, Coded, ALabel, ANote, AnInstruction, Label, Noted}
 use Rattle.lt_assembler.proofs.Added.{takes_code-stage}
 use Rattle.lt_assembler.proofs.Found.{read_if, number_from, by_answer}
 use Rattle.lt_assembler.proofs.ReadsForm.{ReadsForm, form_ok, no_form, named_then, number_then, form_if, form_read}

@@ -7,10 +7,9 @@ use Rattle.std.proofs.Math.Nat.{pow-le-pow_right}
 use Rattle.std.proofs.lemmas.Bool.{and_parts, leb-true}
 use Rattle.std.proofs.lemmas.Bool.Decides.{nat_tests}
 use Rattle.std.proofs.lemmas.Int.Digits.{digits_value-lt}
-use Rattle.gr_base.specs.Numerals.{is_canonical_numeral}
+use Rattle.gr_base.specs.Prelude.{is_canonical_numeral}
 use Rattle.gr_base.proofs.Digits.{canonical_from_test}
-use Rattle.lt_assembler.specs.Numbers.{is_number}
-use Rattle.lt_assembler.specs.Operands.{is_hex}
+use Rattle.lt_assembler.specs.Prelude.{is_number, is_hex}
 
 -- a canonical numeral of at most 19 digits, whose number fits in 64 bits
 pub record IsNumberWord (word : List ℕ) : Type 0 where

@@ -1,11 +1,7 @@
 -- The contents of the lines before a line, from the draft of the lines that were read.
 use Rattle.std.proofs.Common.{◌≡◌, ℕ, ◌+◌, List, [], ◌∷◌, ◌++◌, length, Option, Some, None, refl, sym, ap, ◌∙◌, arith}
 use Rattle.lt_isa.specs.declared.profiles.Profile.{Profile}
-use Rattle.lt_assembler.specs.Drafts.{Labels, Draft, empty_draft}
-use Rattle.lt_assembler.specs.Reading.{width}
-use Rattle.lt_assembler.specs.Items.{Item}
-use Rattle.lt_assembler.specs.Spelled.{Stands, stage_behind, StagesInOrder, labels_in}
-use Rattle.lt_assembler.specs.Earlier.{Earlier, given, stage_behind_all, place_after_all, block_words_by}
+use Rattle.lt_assembler.specs.Prelude.{Labels, Draft, empty_draft, width, Item, Stands, stage_behind, StagesInOrder, labels_in, Earlier, given, stage_behind_all, place_after_all, block_words_by}
 use Rattle.lt_assembler.proofs.Added.{added, adds, IsFresh, AreFresh, stage_in, IsHeaded, IsHeaded-added, stage-added}
 use Rattle.lt_assembler.proofs.Gathered.{option_list, place_added, order_behind}
 use Rattle.lt_assembler.proofs.Spelled.{IsGathered, is_gathered, stage_start, headed_start}

@@ -2,22 +2,14 @@
 use Rattle.std.proofs.Common.{◌≡◌, ◌≢◌, ℕ, ◌+◌, ◌≤◌, Bool, true, false, cond, List, [], ◌∷◌, ◌++◌, length, Option, Some, None, Result, Ok, Err, IfErr, refl, sym, ap, subst, ◌∙◌, arith, length-append}
 use Rattle.std.specs.Prelude.{◌&&◌, is_some}
 use Rattle.std.proofs.lemmas.Bool.{and_parts, and_from, leb-true, le-leb, not-true}
-use Rattle.gr_base.specs.Results.{◌>>=◌}
+use Rattle.gr_base.specs.Prelude.{◌>>=◌}
 use Rattle.lt_isa.specs.declared.profiles.Profile.{Profile}
-use Rattle.lt_isa.specs.Object.{Parts}
+use Rattle.lt_isa.specs.Prelude.{Parts}
 use Rattle.lt_assembler.specs.declared.faults.Fault.{Fault}
 use Rattle.lt_assembler.specs.declared.errors.AsmError.{AsmError}
 use Rattle.lt_assembler.specs.declared.errors.AsmError.TheVariants.{Memory, BadLine, UnknownName}
-use Rattle.lt_assembler.specs.Lines.{lines}
-use Rattle.lt_assembler.specs.Faults.{at_line, in_line, Finds}
-use Rattle.lt_assembler.specs.Drafts.{Labels, Draft, empty_draft}
-use Rattle.lt_assembler.specs.Reading.{line_read, read_lines, instruction_follows}
-use Rattle.lt_assembler.specs.Assembled.{settled, parts_of, is_whole, finished_with, finished, assembled}
-use Rattle.lt_assembler.specs.Items.{Item}
-use Rattle.lt_assembler.specs.Spelled.{Stands, StagesInOrder, gathered, instruction_in, labels_in}
-use Rattle.lt_assembler.specs.Earlier.{Earlier, given}
-use Rattle.lt_assembler.specs.LineRules.{Says, HasFault}
-use Rattle.lt_assembler.specs.FirstFaults.{Leads, Here, On, IsFirstFaulty, AreSaid, IsComplete, IsFirstTextFault, InLine, TooShort, Unknown as UnknownLabel}
+use Rattle.lt_assembler.specs.Prelude.{lines, at_line, in_line, Finds, Labels, Draft, empty_draft, line_read, read_lines, instruction_follows, settled, parts_of, is_whole, finished_with, finished, assembled, Item, Stands, StagesInOrder, gathered, instruction_in, labels_in, Earlier, given, Says, HasFault, Leads, Here, On, IsFirstFaulty, AreSaid, IsComplete, IsFirstTextFault, InLine, TooShort}
+use Rattle.lt_assembler.specs.FirstFaults.{Unknown as UnknownLabel}
 use Rattle.lt_assembler.proofs.Added.{added, adds, IsFresh, AreFresh, stage_in}
 use Rattle.lt_assembler.proofs.Earlier.{earlier_of, given_is, adds-push, fresh-push, order-push, stage_there}
 use Rattle.lt_assembler.proofs.Gathered.{SameLabels, option_list}

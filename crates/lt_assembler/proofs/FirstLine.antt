@@ -5,8 +5,7 @@ use Rattle.std.specs.Char.{is_ascii}
 use Rattle.std.specs.List.{prefix_len, slice_split, onto_first}
 use Rattle.std.proofs.lemmas.List.{length-drop, take_all}
 use Rattle.std.proofs.lemmas.Bool.Decides.{nat_tests}
-use Rattle.lt_assembler.specs.Lines.{is_blank, has_bytes, pieces, uncommented, is_ascii_line}
-use Rattle.lt_assembler.specs.LineParts.{line_len, first_line, behind_line, line_words, is_part, is_comment}
+use Rattle.lt_assembler.specs.Prelude.{is_blank, has_bytes, pieces, uncommented, is_ascii_line, line_len, first_line, behind_line, line_words, is_part, is_comment}
 use Rattle.lt_assembler.proofs.Splitting.{on_test, one_more}
 
 -- bytes

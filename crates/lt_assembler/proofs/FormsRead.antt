@@ -1,7 +1,6 @@
 -- Reading a line that has a form doesn't fail for its form.
-use Rattle.std.proofs.Common.{◌≡◌, ℕ, ◌+◌, ◌-◌, ◌*◌, ◌<◌, ◌≤◌, Bool, true, false, not, cond, eqb, ltb, List, [], ◌∷◌, ◌++◌, length, None, Result, Ok, Err, refl, sym, ap, subst, ◌∙◌, arith}
+use Rattle.std.proofs.Common.{◌≡◌, ℕ, ◌+◌, ◌-◌, ◌*◌, ◌<◌, ◌≤◌, Bool, true, false, not, cond, eqb, ltb, List, [], ◌∷◌, ◌++◌, length, None, Result, Ok, Err, refl, sym, ap, subst, ◌∙◌, arith, inl, inr}
 use Rattle.std.specs.Prelude.{◌⊎◌, ◌&&◌, ◌||◌, codes, is_none, slice_index}
-use Rattle.std.proofs.Common.{inl, inr}
 use Rattle.std.specs.Char.{is_ascii_digit}
 use Rattle.std.proofs.lemmas.Bool.{le-leb, le-ltb, eq-eqb, and_parts, and_from}
 use Rattle.gr_word.specs.declared.operations.Op.TheVariants.{Add}
@@ -9,29 +8,16 @@ use Rattle.gr_word.specs.declared.operations.Op.{Op}
 use Rattle.gr_word.specs.declared.operations.Cmp.{Cmp}
 use Rattle.gr_word.specs.declared.variables.Label.{Label}
 use Rattle.gr_word.specs.declared.variables.Shape.{Shape}
-use Rattle.gr_word.specs.Names.{is_name}
+use Rattle.gr_word.specs.Prelude.{is_name}
 use Rattle.lt_isa.specs.declared.profiles.Profile.{Profile}
 use Rattle.lt_isa.specs.declared.profiles.BankSpec.{BankSpec}
 use Rattle.lt_isa.specs.declared.symbols.Symbol.{Symbol}
 use Rattle.lt_isa.specs.declared.instructions.Instr.{Instr}
 use Rattle.lt_isa.specs.declared.instructions.Instr.TheVariants.{Ldw, Stw}
-use Rattle.lt_isa.specs.InstructionTable.{op_word, cmp_word}
-use Rattle.lt_isa.specs.Limits.{most_blocks}
-use Rattle.lt_isa.specs.SymbolPlaces.{last_bank, blocks_in, first_free_word, most_length}
-use Rattle.lt_assembler.specs.declared.mnemonics.Mnemonic.TheVariants as mnemonic
-use Rattle.lt_isa.specs.Ranges.{IsRegister, next_place}
+use Rattle.lt_isa.specs.Prelude.{op_word, cmp_word, most_blocks, last_bank, blocks_in, first_free_word, most_length, IsRegister, next_place}
 use Rattle.lt_assembler.specs.declared.faults.Fault.{Fault}
 use Rattle.lt_assembler.specs.declared.faults.Fault.TheVariants.{WrongForm, Number, RepeatedName, Limit, Memory}
-use Rattle.lt_assembler.specs.Words.{Word, hex_word, label_word, shape_word, register_word, bank_word}
-use Rattle.lt_assembler.specs.Lines.{words, is_ascii_line}
-use Rattle.lt_assembler.specs.Numbers.{begins_with, number_within, constant_of}
-use Rattle.lt_assembler.specs.Operands.{mnemonic_named, op_named, cmp_named, label_named, shape_named, register_of, slot_named, bank_named, mask_of, claims_of}
-use Rattle.lt_assembler.specs.Instructions.{Aim, Coded, aim_read, li_read, alu_read, ldb_read, stb_read, idb_read, access_read, ldw_read, stw_read, without_target, jmp_read, br_read, instruction_read, is_of_form, is_instruction}
-use Rattle.lt_assembler.specs.Drafts.{Draft, Labels, place_of, takes_bank, takes_symbol, takes_code, is_noted}
-use Rattle.lt_assembler.specs.Reading.{is_version, width, is_new, has_room, cycles_read, window_read, profile_read, object_line, bank_read, bank_line, site_read, symbol_read, symbol_line, note_read, note_line, label_name, label_line, code_line, by_first_word, line_read, is_instruction_line, instruction_follows}
-use Rattle.lt_assembler.specs.Forms.{IsTarget, HasInstructionForm, InstructionFollows, HasForm}
-use Rattle.lt_assembler.specs.Forms as form
-use Rattle.lt_assembler.specs.LineRules.{IsOfForm}
+use Rattle.lt_assembler.specs.Prelude.{Word, hex_word, label_word, shape_word, register_word, bank_word, words, is_ascii_line, begins_with, number_within, constant_of, mnemonic_named, op_named, cmp_named, label_named, shape_named, register_of, slot_named, bank_named, mask_of, claims_of, Aim, Coded, aim_read, li_read, alu_read, ldb_read, stb_read, idb_read, access_read, ldw_read, stw_read, without_target, jmp_read, br_read, instruction_read, is_of_form, is_instruction, Draft, Labels, place_of, takes_bank, takes_symbol, takes_code, is_noted, is_version, width, is_new, has_room, cycles_read, window_read, profile_read, object_line, bank_read, bank_line, site_read, symbol_read, symbol_line, note_read, note_line, label_name, label_line, code_line, by_first_word, line_read, is_instruction_line, instruction_follows, IsTarget, HasInstructionForm, InstructionFollows, HasForm, IsOfForm}
 use Rattle.lt_assembler.proofs.Added.{stage-takes_bank, stage-takes_symbol, stage-is_none}
 use Rattle.lt_assembler.proofs.InstructionWords.{op_again, cmp_again}
 use Rattle.lt_assembler.proofs.InstructionsRead.{instruction_read_so}
@@ -39,6 +25,8 @@ use Rattle.lt_assembler.proofs.ItemsRead.{label_reads, shape_reads, label_name_a
 use Rattle.lt_assembler.proofs.NumberWords.{register_again, bank_again, mask_again}
 use Rattle.lt_assembler.proofs.ReadsForm.{or_left, or_right, ReadsForm, Formed, formed_ok, formed_then, formed_number, number_formed, named_formed, if_formed, test_formed, name_formed, limit_formed}
 use Rattle.lt_assembler.proofs.Earlier.{earlier_of}
+use Rattle.lt_assembler.specs.declared.mnemonics.Mnemonic.TheVariants as mnemonic
+use Rattle.lt_assembler.specs.Forms as form
 
 -- targets
 
@@ -46,10 +34,6 @@ first_of : (b : Bool) (r s : Result Aim Fault)
     → (b ≡ true → Formed r) → (b ≡ false → Formed s) → Formed (cond b r s)
 first_of true r s h k = h refl
 first_of false r s h k = k refl
-
-none_before : (a b : Bool) → a ≡ false → (a || b) ≡ true → b ≡ true
-none_before true b e h = absurd cc
-none_before false b e h = h
 
 -- the last of four tests is true if one is and the first three aren't
 last_of : (a b c d : Bool) → ((a || (b || c)) || d) ≡ true → a ≡ false → b ≡ false → c ≡ false → d ≡ true

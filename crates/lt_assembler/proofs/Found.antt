@@ -7,17 +7,14 @@ use Rattle.std.proofs.lemmas.Bool.{and_parts, eqb-true}
 use Rattle.std.proofs.lemmas.Int.{ints}
 use Rattle.std.proofs.lemmas.Int.Digits.{digits_value-lt}
 use Rattle.std.proofs.lemmas.Option.{cond_some}
-use Rattle.gr_word.specs.Words.{IsWord}
-use Rattle.lt_isa.specs.Ranges.{IsOffset}
+use Rattle.gr_word.specs.Prelude.{IsWord}
+use Rattle.lt_isa.specs.Prelude.{IsOffset}
 use Rattle.lt_assembler.specs.declared.faults.Fault.{Fault}
-use Rattle.lt_assembler.specs.Words.{Word, offset_word}
-use Rattle.lt_assembler.specs.Numbers.{is_number, number_within, negative, begins_with, but_first, constant_of, forward_of, backward_of}
-use Rattle.gr_base.specs.Lists.{is_within}
+use Rattle.lt_assembler.specs.Prelude.{Word, offset_word, is_number, number_within, negative, begins_with, but_first, constant_of, forward_of, backward_of, unless_not}
+use Rattle.gr_base.specs.Prelude.{is_within, ◌>>=◌}
 use Rattle.gr_base.proofs.Digits.{numeral_text}
 use Rattle.gr_base.proofs.ListTests.{Within-is_within}
 use Rattle.gr_base.proofs.Results.{IfRead, read_err, mapped}
-use Rattle.lt_assembler.specs.Faults.{unless_not}
-use Rattle.gr_base.specs.Results.{◌>>=◌}
 use Rattle.lt_assembler.proofs.Digits.{number_word}
 
 -- a test before the rest

@@ -8,14 +8,10 @@ use Rattle.std.specs.Cmp.Lexicographic.{slice_cmp}
 use Rattle.std.specs.Map.{lookup}
 use Rattle.std.proofs.lemmas.List.{append-nil}
 use Rattle.std.proofs.lemmas.Map.Text.{is_eq-slice_cmp}
-use Rattle.gr_base.specs.Lists.{EachAfter}
+use Rattle.gr_base.specs.Prelude.{EachAfter}
 use Rattle.gr_base.proofs.ListTests.{bytes_eq-own}
 use Rattle.lt_isa.specs.declared.instructions.Instr.{Instr}
-use Rattle.lt_assembler.specs.Words.{Word}
-use Rattle.lt_assembler.specs.Drafts.{Use, Labels, Draft, place_of, with_label}
-use Rattle.lt_assembler.specs.Reading.{uses_of}
-use Rattle.lt_assembler.specs.Items.{Item, Nothing, AnObject, ABank, ASymbol, ALabel, ANote, AnInstruction}
-use Rattle.lt_assembler.specs.Spelled.{Stands, StagesInOrder, place_after, gathered, profile_in, bank_in, symbol_in, note_in, label_in}
+use Rattle.lt_assembler.specs.Prelude.{Word, Use, Labels, Draft, place_of, with_label, uses_of, Item, Nothing, AnObject, ABank, ASymbol, ALabel, ANote, AnInstruction, Stands, StagesInOrder, place_after, gathered, profile_in, bank_in, symbol_in, note_in, label_in}
 use Rattle.lt_assembler.proofs.Added.{coded_in, added, adds, AreFresh, stage_in, IsHeaded, IsHeaded-added, stage-added, stage-is_none}
 use Rattle.lt_assembler.proofs.NamedWords.{same_word}
 use Rattle.lt_assembler.proofs.Splitting.{on_test}
@@ -200,20 +196,12 @@ once_added : (n : ℕ) (item : Item) (items : List Item) (d : Draft) (before : L
     → ItemsFresh (length (added n item d).code) (before ++ label_in (length d.code) item) items
     → ItemsFresh (length d.code) before (item ∷ items)
 once_added n (ALabel key) items d before fresh same rest = (sym (same key) ∙ fresh.0, rest)
-once_added n Nothing items d before fresh same rest =
-    subst (λ (ls : Labels). ItemsFresh (length d.code) ls items) (append-nil before) rest
-once_added n (AnObject p) items d before fresh same rest =
-    subst (λ (ls : Labels). ItemsFresh (length d.code) ls items) (append-nil before) rest
-once_added n (ABank b) items d before fresh same rest =
-    subst (λ (ls : Labels). ItemsFresh (length d.code) ls items) (append-nil before) rest
-once_added n (ASymbol s) items d before fresh same rest =
-    subst (λ (ls : Labels). ItemsFresh (length d.code) ls items) (append-nil before) rest
-once_added n (ANote mask claims) items d before fresh same rest =
-    subst (λ (ls : Labels). ItemsFresh (length d.code) ls items) (append-nil before) rest
 once_added n (AnInstruction i t) items d before fresh same rest =
     subst (λ p. ItemsFresh p before items) (place_added n (AnInstruction i t) d)
     (subst (λ (ls : Labels). ItemsFresh (length (added n (AnInstruction i t) d).code) ls items)
     (append-nil before) rest)
+once_added n other items d before fresh same rest =
+    subst (λ (ls : Labels). ItemsFresh (length d.code) ls items) (append-nil before) rest
 
 -- the labels of items
 pub record LabelsAre (n : ℕ) (items : List Item) (d : Draft) (before : Labels) : Type 0 where

@@ -12,21 +12,13 @@ use Rattle.lt_isa.specs.declared.profiles.BankSpec.{BankSpec}
 use Rattle.lt_isa.specs.declared.symbols.Symbol.{Symbol}
 use Rattle.lt_isa.specs.declared.symbols.Note.{Note}
 use Rattle.lt_isa.specs.declared.instructions.Instr.{Instr}
-use Rattle.gr_base.specs.Lists.{Within, EachAfter}
-use Rattle.lt_isa.specs.Ranges.{ProfileFits, BankFits, SymbolFits, NoteFits, InstrFits, next_place}
-use Rattle.lt_isa.specs.Limits.{most_blocks}
-use Rattle.lt_isa.specs.Windows.{HasUnitPeriod}
+use Rattle.gr_base.specs.Prelude.{Within, EachAfter}
+use Rattle.lt_isa.specs.Prelude.{ProfileFits, BankFits, SymbolFits, NoteFits, InstrFits, next_place, most_blocks, HasUnitPeriod}
 use Rattle.lt_isa.proofs.Windows.{IsWindowed, windowed-fits}
 use Rattle.gr_base.proofs.EachAfter.{EachAfter-push}
 use Rattle.lt_assembler.specs.declared.faults.Fault.{Fault}
 use Rattle.lt_assembler.specs.declared.faults.Fault.TheVariants.{WrongForm, RepeatedName, Limit}
-use Rattle.lt_assembler.specs.Words.{Word}
-use Rattle.lt_assembler.specs.Numbers.{number_within}
-use Rattle.lt_assembler.specs.Drafts.{Draft, Labels, Use, empty_draft, has_code, takes_bank, takes_symbol}
-use Rattle.lt_assembler.specs.Reading.{is_version, cycles_read, window_read, profile_read, object_line, bank_read, bank_line, width, is_new, has_room, symbol_line}
-use Rattle.lt_assembler.specs.Canonical.{cycles_words, window_words, object_words, words_for_bank}
-use Rattle.lt_assembler.specs.Items.{Item, AnObject, ABank, ASymbol, WordsSpell, Object, Bank, Variable}
-use Rattle.lt_assembler.specs.Spelled.{Stands}
+use Rattle.lt_assembler.specs.Prelude.{Word, number_within, Draft, Labels, Use, empty_draft, has_code, takes_bank, takes_symbol, is_version, cycles_read, window_read, profile_read, object_line, bank_read, bank_line, width, is_new, has_room, symbol_line, cycles_words, window_words, object_words, words_for_bank, Item, AnObject, ABank, ASymbol, WordsSpell, Object, Bank, Variable, Stands}
 use Rattle.lt_assembler.proofs.Added.{added, IsFresh, stage_in, IsHeaded, IsHeaded-added, is_none-stage, stage-is_none, takes_bank-stage, takes_symbol-stage}
 use Rattle.lt_assembler.proofs.Found.{read_if, number_from, IsNumber}
 use Rattle.lt_assembler.proofs.ReadsForm.{ReadsForm, form_ok, no_form, form_then, number_then, number_if, form_weaker, form_read}

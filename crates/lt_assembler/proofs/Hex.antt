@@ -1,6 +1,6 @@
 -- Numbers in hexadecimal digits.
 use Rattle.std.proofs.Common.{◌≡◌, ℕ, zero, suc, ◌-◌, ◌/◌, ◌%◌, ◌<◌, [], ◌∷◌, ◌++◌, refl, arith}
-use Rattle.lt_assembler.specs.Words.{hex_digit, hex_word}
+use Rattle.lt_assembler.specs.Prelude.{hex_digit, hex_word}
 
 -- one more digit
 pub hex_more : (k n : ℕ) → 0 < k → hex_word k n ≡ hex_word (k - 1) (n / 16) ++ hex_digit (n % 16) ∷ []

@@ -8,19 +8,11 @@ use Rattle.std.proofs.lemmas.List.Elements.{All-set, All-head, All-tail}
 use Rattle.lt_isa.specs.declared.profiles.Profile.{Profile}
 use Rattle.lt_isa.specs.declared.instructions.Instr.{Instr}
 use Rattle.lt_isa.specs.declared.instructions.Instr.TheVariants.{Nop, Jmp, Br}
-use Rattle.lt_isa.specs.Object.{Parts}
-use Rattle.gr_base.specs.Lists.{EachAfter}
-use Rattle.lt_isa.specs.Ranges.{SymbolFits, InstrFits, IsOffset, IsInRange, next_place}
+use Rattle.lt_isa.specs.Prelude.{Parts, SymbolFits, InstrFits, IsOffset, IsInRange, next_place, with_offset}
+use Rattle.gr_base.specs.Prelude.{EachAfter, ◌>>=◌}
 use Rattle.lt_assembler.specs.declared.errors.AsmError.{AsmError}
 use Rattle.lt_assembler.specs.declared.errors.AsmError.TheVariants.{BadLine}
-use Rattle.lt_assembler.specs.Words.{Word}
-use Rattle.lt_assembler.specs.Lines.{lines}
-use Rattle.gr_base.specs.Results.{◌>>=◌}
-use Rattle.lt_assembler.specs.Instructions.{offset_to}
-use Rattle.lt_assembler.specs.Drafts.{Use, Labels, Draft, empty_draft, place_of}
-use Rattle.lt_assembler.specs.Reading.{read_lines, width}
-use Rattle.lt_isa.specs.InstructionTable.{with_offset}
-use Rattle.lt_assembler.specs.Assembled.{aimed, settled, parts_of, is_whole, finished_with, finished, assembled}
+use Rattle.lt_assembler.specs.Prelude.{Word, lines, offset_to, Use, Labels, Draft, empty_draft, place_of, read_lines, width, aimed, settled, parts_of, is_whole, finished_with, finished, assembled}
 use Rattle.gr_base.proofs.Results.{IfRead, read_ok, read_err, read_then, some_is}
 use Rattle.lt_assembler.proofs.Splitting.{positive}
 use Rattle.lt_assembler.proofs.InstructionsRead.{offset_to_fits}

@@ -9,17 +9,12 @@ use Rattle.gr_word.specs.declared.operations.Cmp.{Cmp}
 use Rattle.gr_word.specs.declared.operations.Cmp.TheVariants.{Eq}
 use Rattle.lt_isa.specs.declared.instructions.Instr.{Instr}
 use Rattle.lt_isa.specs.declared.instructions.Instr.TheVariants.{Nop, Halt, Li, Alu, Ldb, Stb, Idb, Ldw, Stw, Jmp, Br}
-use Rattle.lt_isa.specs.Ranges.{InstrFits, IsOffset}
-use Rattle.lt_assembler.specs.declared.mnemonics.Mnemonic.TheVariants as mnemonic
+use Rattle.lt_isa.specs.Prelude.{InstrFits, IsOffset, op_word, cmp_word}
 use Rattle.lt_assembler.specs.declared.faults.Fault.TheVariants.{Number}
-use Rattle.lt_assembler.specs.Words.{Word, offset_word}
-use Rattle.lt_isa.specs.InstructionTable.{op_word, cmp_word}
-use Rattle.lt_assembler.specs.Operands.{op_named, cmp_named, mnemonic_named}
-use Rattle.lt_assembler.specs.Faults.{unless_not}
-use Rattle.gr_base.specs.Results.{◌>>=◌}
-use Rattle.lt_assembler.specs.Canonical.{instruction_words}
-use Rattle.lt_assembler.specs.Instructions.{offset_aim, aim_read, Coded, li_read, alu_read, ldb_read, stb_read, idb_read, access_read, jmp_read, br_read, instruction_read, is_of_form, is_instruction}
+use Rattle.lt_assembler.specs.Prelude.{Word, offset_word, op_named, cmp_named, mnemonic_named, unless_not, instruction_words, offset_aim, aim_read, Coded, li_read, alu_read, ldb_read, stb_read, idb_read, access_read, jmp_read, br_read, instruction_read, is_of_form, is_instruction}
+use Rattle.gr_base.specs.Prelude.{◌>>=◌}
 use Rattle.lt_assembler.proofs.NumberWords.{constant_again, forward_again, backward_again, register_again, slot_again, bank_again}
+use Rattle.lt_assembler.specs.declared.mnemonics.Mnemonic.TheVariants as mnemonic
 
 pub op_again : (op : Op) → mnemonic_named (op_word op) ≡ Some (mnemonic.Alu op)
 unfolding mnemonic_named op_named

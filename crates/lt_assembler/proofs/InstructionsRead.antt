@@ -6,29 +6,21 @@ use Rattle.std.proofs.lemmas.Bool.{ltb-true}
 use Rattle.std.proofs.lemmas.Int.{ints}
 use Rattle.gr_word.specs.declared.operations.Op.{Op}
 use Rattle.gr_word.specs.declared.operations.Cmp.{Cmp}
-use Rattle.gr_word.specs.Names.{is_name}
+use Rattle.gr_word.specs.Prelude.{is_name}
 use Rattle.lt_isa.specs.declared.instructions.Instr.{Instr}
-use Rattle.lt_isa.specs.declared.instructions.Instr.TheVariants as instr
-use Rattle.lt_isa.specs.Ranges.{IsRegister, IsSlot, IsOffset, InstrFits}
+use Rattle.lt_isa.specs.Prelude.{IsRegister, IsSlot, IsOffset, InstrFits, cmp_word, comparisons, with_offset}
 use Rattle.lt_assembler.specs.declared.mnemonics.Mnemonic.{Mnemonic}
 use Rattle.lt_assembler.specs.declared.mnemonics.Mnemonic.TheVariants.{Nop, Halt, Li, Ldb, Stb, Idb, Ldw, Stw, Jmp, Br, Alu}
 use Rattle.lt_assembler.specs.declared.faults.Fault.{Fault}
-use Rattle.lt_assembler.specs.Words.{Word, register_word, offset_word}
-use Rattle.lt_isa.specs.InstructionTable.{cmp_word, comparisons, with_offset}
-use Rattle.lt_assembler.specs.Numbers.{begins_with, but_first, number_within}
-use Rattle.lt_assembler.specs.Operands.{mnemonic_word, cmp_named}
-use Rattle.lt_assembler.specs.Faults.{number_or}
-use Rattle.lt_assembler.specs.Canonical.{instruction_words}
-use Rattle.lt_assembler.specs.Instructions.{Aim, offset_aim, offset_to, aim_read, Coded, li_read, alu_read, ldb_read, stb_read, idb_read, access_read, bare_read, jmp_read, br_read, without_target, untargeted_read, operands_read, instruction_read}
-use Rattle.lt_assembler.specs.Items.{Target, ToPlace, ToLabel, SpellsTarget, InDigits, ByName, AnInstruction, WordsSpell, Instruction, Jump, Branch}
-use Rattle.lt_assembler.specs.Forms.{IsTarget, HasInstructionForm}
-use Rattle.lt_assembler.specs.Forms as form
+use Rattle.lt_assembler.specs.Prelude.{Word, register_word, offset_word, begins_with, but_first, number_within, mnemonic_word, cmp_named, number_or, instruction_words, Aim, offset_aim, offset_to, aim_read, Coded, li_read, alu_read, ldb_read, stb_read, idb_read, access_read, bare_read, jmp_read, br_read, without_target, untargeted_read, operands_read, instruction_read, Target, ToPlace, ToLabel, SpellsTarget, InDigits, ByName, AnInstruction, WordsSpell, Instruction, Jump, Branch, IsTarget, HasInstructionForm}
 use Rattle.lt_assembler.proofs.ReadsForm.{ReadsForm, form_ok, no_form, form_then, named_then, number_then, number_named, form_if, number_if, form_as, or_left, or_right}
 use Rattle.lt_assembler.proofs.Found.{number_from, IsSigned, IsNumber, first_byte, constant_from, forward_from, backward_from}
 use Rattle.gr_base.proofs.Results.{mapped}
 use Rattle.lt_assembler.proofs.Added.{coded_in}
 use Rattle.lt_assembler.proofs.NamedWords.{same_word, named_is, mnemonic_is}
 use Rattle.lt_assembler.proofs.WordsRead.{register_from, slot_from, bank_from}
+use Rattle.lt_isa.specs.declared.instructions.Instr.TheVariants as instr
+use Rattle.lt_assembler.specs.Forms as form
 
 -- instructions without a target
 

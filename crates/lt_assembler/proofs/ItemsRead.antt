@@ -12,33 +12,21 @@ use Rattle.gr_word.specs.declared.variables.Label.{Label}
 use Rattle.gr_word.specs.declared.variables.Label.TheVariants.{Public, Secret}
 use Rattle.gr_word.specs.declared.variables.Shape.{Shape}
 use Rattle.gr_word.specs.declared.variables.Shape.TheVariants.{Scalar, Array}
-use Rattle.gr_word.specs.Names.{is_name, is_name_byte}
+use Rattle.gr_word.specs.Prelude.{is_name, is_name_byte}
 use Rattle.lt_isa.specs.declared.profiles.Profile.{Profile}
 use Rattle.lt_isa.specs.declared.profiles.BankSpec.{BankSpec}
 use Rattle.lt_isa.specs.declared.symbols.Symbol.{Symbol}
 use Rattle.lt_isa.specs.declared.symbols.Note.{Note}
 use Rattle.lt_isa.specs.declared.instructions.Instr.{Instr}
 use Rattle.lt_isa.specs.declared.instructions.Instr.TheVariants.{Nop, Alu, Jmp, Br}
-use Rattle.lt_isa.specs.Ranges.{ProfileFits, BankFits, SymbolFits, NoteFits, InstrFits, IsRegister, total_length, next_place}
-use Rattle.lt_isa.specs.Limits.{most_blocks}
-use Rattle.lt_isa.specs.SymbolPlaces.{LiesBehind, last_bank, blocks_in, first_free_word, most_length}
+use Rattle.lt_isa.specs.Prelude.{ProfileFits, BankFits, SymbolFits, NoteFits, InstrFits, IsRegister, total_length, next_place, most_blocks, LiesBehind, last_bank, blocks_in, first_free_word, most_length, cmp_word}
 use Rattle.lt_isa.proofs.OtherNames.{pass_others}
 use Rattle.lt_isa.proofs.SymbolPlaces.{most_blocks-le, fields_of_lies}
-use Rattle.lt_assembler.specs.Words.{Word, register_word, label_word, shape_word, claim_word, hex_word}
-use Rattle.lt_isa.specs.InstructionTable.{cmp_word}
-use Rattle.gr_base.specs.Lists.{is_within}
-use Rattle.gr_base.specs.Numerals.{is_canonical_numeral}
-use Rattle.lt_assembler.specs.Numbers.{is_number, begins_with, number_within}
-use Rattle.lt_assembler.specs.Operands.{op_named, mnemonic_named, label_named, shape_named}
-use Rattle.lt_assembler.specs.Canonical.{profile_words, object_words, words_for_bank, words_for_symbol, instruction_words}
-use Rattle.lt_assembler.specs.Instructions.{aim_read, jmp_read, br_read, instruction_read, is_instruction}
+use Rattle.lt_assembler.specs.Prelude.{Word, register_word, label_word, shape_word, claim_word, hex_word, is_number, begins_with, number_within, op_named, mnemonic_named, label_named, shape_named, profile_words, object_words, words_for_bank, words_for_symbol, instruction_words, aim_read, jmp_read, br_read, instruction_read, is_instruction, unless_not, Draft, place_of, takes_bank, takes_symbol, takes_code, is_noted, cycles_read, window_read, profile_read, object_line, bank_read, bank_line, site_read, symbol_read, width, is_new, has_room, symbol_line, note_read, note_line, label_name, label_line, code_line, by_first_word, Target, ToPlace, ToLabel, SpellsTarget, InDigits, ByName, Item, Nothing, AnObject, ABank, ASymbol, ALabel, ANote, AnInstruction, WordsSpell, Empty, Object, Bank, Variable, Noted, Instruction, Jump, Branch}
+use Rattle.gr_base.specs.Prelude.{is_within, is_canonical_numeral, ◌>>=◌}
 use Rattle.lt_assembler.specs.declared.faults.Fault.{Fault}
 use Rattle.lt_assembler.specs.declared.faults.Fault.TheVariants.{WrongForm, RepeatedName, Limit}
-use Rattle.lt_assembler.specs.Faults.{unless_not}
-use Rattle.gr_base.specs.Results.{◌>>=◌}
-use Rattle.lt_assembler.specs.Drafts.{Draft, place_of, takes_bank, takes_symbol, takes_code, is_noted}
-use Rattle.lt_assembler.specs.Reading.{cycles_read, window_read, profile_read, object_line, bank_read, bank_line, site_read, symbol_read, width, is_new, has_room, symbol_line, note_read, note_line, label_name, label_line, code_line, by_first_word}
-use Rattle.lt_assembler.specs.Items.{Target, ToPlace, ToLabel, SpellsTarget, InDigits, ByName, Item, Nothing, AnObject, ABank, ASymbol, ALabel, ANote, AnInstruction, WordsSpell, Empty, Object, Bank, Variable, Label as LabelWords, Noted, Instruction, Jump, Branch}
+use Rattle.lt_assembler.specs.Items.{Label as LabelWords}
 use Rattle.lt_assembler.proofs.Added.{coded_in, added}
 use Rattle.lt_assembler.proofs.InstructionsRead.{aim_in}
 use Rattle.lt_assembler.proofs.NumberWords.{decimal_digits, no_other, number_again, register_again, mask_again, claims_again}

@@ -11,10 +11,7 @@ use Rattle.std.specs.Map.{lookup}
 use Rattle.std.proofs.lemmas.Map.Text.{is_eq-slice_cmp}
 use Rattle.lt_assembler.specs.declared.draft.CodePlace.{CodePlace}
 use Rattle.lt_assembler.specs.declared.label_keys.LabelKey.{LabelKey}
-use Rattle.lt_assembler.specs.Words.{Word}
-use Rattle.lt_assembler.specs.Marks.{mark_of}
-use Rattle.lt_assembler.specs.Drafts.{Labels, with_label}
-use Rattle.lt_assembler.specs.Seen.{by_name}
+use Rattle.lt_assembler.specs.Prelude.{Word, mark_of, Labels, with_label, by_name}
 use Rattle.lt_assembler.proofs.Splitting.{on_test}
 use Rattle.lt_assembler.proofs.NamedWords.{same_word}
 use Rattle.lt_assembler.proofs.Added.{not_zero, inserted}

@@ -3,14 +3,10 @@ use Rattle.std.proofs.Common.{◌≡◌, ◌≢◌, ℕ, ◌+◌, List, [], ◌�
 use Rattle.lt_assembler.specs.declared.faults.Fault.{Fault}
 use Rattle.lt_assembler.specs.declared.faults.Fault.TheVariants.{Memory}
 use Rattle.lt_assembler.specs.declared.errors.AsmError.{AsmError}
-use Rattle.lt_assembler.specs.declared.errors.AsmError.TheVariants as error
-use Rattle.lt_assembler.specs.Lines.{lines}
-use Rattle.gr_base.specs.Results.{◌>>=◌}
-use Rattle.lt_assembler.specs.Faults.{at_line}
-use Rattle.lt_assembler.specs.Drafts.{Draft, empty_draft}
-use Rattle.lt_assembler.specs.Reading.{line_read, read_lines, instruction_follows}
-use Rattle.lt_assembler.specs.Assembled.{text_read}
+use Rattle.lt_assembler.specs.Prelude.{lines, at_line, Draft, empty_draft, line_read, read_lines, instruction_follows, text_read}
+use Rattle.gr_base.specs.Prelude.{◌>>=◌}
 use Rattle.gr_base.proofs.Results.{ok_is}
+use Rattle.lt_assembler.specs.declared.errors.AsmError.TheVariants as error
 
 -- a line without an error
 pub read_one : (n : ℕ) (line : List ℕ) (rest : List (List ℕ)) (d e : Draft)

@@ -3,23 +3,16 @@ use Rattle.std.proofs.Common.{◌≡◌, ℕ, ◌+◌, ◌≤◌, Bool, true, fa
 use Rattle.std.specs.Prelude.{IsTrue, is_none}
 use Rattle.std.proofs.lemmas.Bool.{and_parts, and_from, leb-true, ltb-true, lt-ltb, le-leb}
 use Rattle.std.proofs.Math.Nat.{pow-le-pow_right}
-use Rattle.gr_word.specs.Names.{is_name}
+use Rattle.gr_word.specs.Prelude.{is_name}
 use Rattle.gr_base.proofs.EachAfter.{EachBelow-from_after}
 use Rattle.lt_isa.specs.declared.profiles.Profile.{Profile}
 use Rattle.lt_isa.specs.declared.symbols.Symbol.{Symbol}
-use Rattle.lt_isa.specs.Object.{no_bank}
-use Rattle.lt_isa.specs.Ranges.{ProfileFits, BankFits, total_length}
-use Rattle.lt_isa.specs.SymbolPlaces.{LiesBehind}
+use Rattle.lt_isa.specs.Prelude.{no_bank, ProfileFits, BankFits, total_length, LiesBehind}
 use Rattle.lt_isa.proofs.OtherNames.{others}
 use Rattle.lt_isa.proofs.SymbolPlaces.{most_words-le, most_blocks-le}
 use Rattle.lt_assembler.specs.declared.faults.Fault.{Fault}
 use Rattle.lt_assembler.specs.declared.faults.Fault.TheVariants.{WrongForm, Number, RepeatedName, Limit, Memory}
-use Rattle.lt_assembler.specs.Lines.{words, is_ascii_line}
-use Rattle.lt_assembler.specs.Drafts.{Labels, Draft, place_of}
-use Rattle.lt_assembler.specs.Reading.{width, is_new, by_first_word, line_read, instruction_follows}
-use Rattle.lt_assembler.specs.Items.{Item, Nothing, AnObject, ABank, ASymbol, ALabel, ANote, AnInstruction}
-use Rattle.lt_assembler.specs.LineRules.{IsOfForm, FitsRanges, HasNewName, HasRoom, SpellsInRange, Says, HasFault, OtherForm, BadNumber, TwiceNamed, OverLimit}
-use Rattle.lt_assembler.specs.Spelled.{Stands}
+use Rattle.lt_assembler.specs.Prelude.{words, is_ascii_line, Labels, Draft, place_of, width, is_new, by_first_word, line_read, instruction_follows, Item, Nothing, AnObject, ABank, ASymbol, ALabel, ANote, AnInstruction, IsOfForm, FitsRanges, HasNewName, HasRoom, SpellsInRange, Says, HasFault, OtherForm, BadNumber, TwiceNamed, OverLimit, Stands}
 use Rattle.lt_assembler.proofs.Added.{added, IsFresh, stage_in, is_none-stage, takes_bank-stage, takes_symbol-stage, takes_code-stage}
 use Rattle.lt_assembler.proofs.CanonicalWords.{HasSmallNumbers}
 use Rattle.lt_assembler.proofs.CodeLines.{none_is}
@@ -123,29 +116,19 @@ module _ (d : Draft) (labels : Labels) (after : List (List ℕ)) (h : DraftFits 
   unfolding is_new
   new_by_test (ASymbol s) e = others d.symbols s.name e
   new_by_test (ALabel name) e = sym (same name) ∙ none_is (place_of d.labels name) e
-  new_by_test Nothing e = tt
-  new_by_test (AnObject p) e = tt
-  new_by_test (ABank b) e = tt
-  new_by_test (ANote mask claims) e = tt
-  new_by_test (AnInstruction i t) e = tt
+  new_by_test other e = tt
 
   test_by_new : (item : Item) → HasNewName (earlier_of d labels) item → is_new_in d item ≡ true
   test_by_new (ASymbol s) k = new_reads d.symbols s.name k
   test_by_new (ALabel name) k = ap is_none (same name ∙ k)
-  test_by_new Nothing k = refl
-  test_by_new (AnObject p) k = refl
-  test_by_new (ABank b) k = refl
-  test_by_new (ANote mask claims) k = refl
-  test_by_new (AnInstruction i t) k = refl
+  test_by_new other k = refl
 
   room_by_test : (item : Item) → has_room_in d item ≡ true → HasRoom (earlier_of d labels) item
-  room_by_test (ABank b) e = ltb-true _ _ e
   room_by_test (ASymbol s) e = let p = and_parts _ _ e in (ltb-true _ _ p.0, leb-true _ _ p.1)
-  room_by_test (ANote mask claims) e = ltb-true _ _ e
-  room_by_test (AnInstruction i t) e = ltb-true _ _ e
   room_by_test Nothing e = tt
   room_by_test (AnObject p) e = tt
   room_by_test (ALabel name) e = tt
+  room_by_test other e = ltb-true _ _ e
 
   test_by_room : (item : Item) → HasRoom (earlier_of d labels) item → has_room_in d item ≡ true
   test_by_room (ABank b) k = lt-ltb (length d.banks) 10 k
@@ -153,9 +136,7 @@ module _ (d : Draft) (labels : Labels) (after : List (List ℕ)) (h : DraftFits 
       and_from _ _ (lt-ltb (length d.symbols) 1024 k.0) (le-leb (total_length d.symbols + s.length) 4194304 k.1)
   test_by_room (ANote mask claims) k = lt-ltb (length d.notes) 262144 k
   test_by_room (AnInstruction i t) k = lt-ltb (length d.code) 1048576 k
-  test_by_room Nothing k = refl
-  test_by_room (AnObject p) k = refl
-  test_by_room (ALabel name) k = refl
+  test_by_room other k = refl
 
   pub record SpellsOne (line : List ℕ) : Type 0 where
     pub item : Item
@@ -209,12 +190,7 @@ module _ (d : Draft) (labels : Labels) (after : List (List ℕ)) (h : DraftFits 
   -- a label of a line without an error is new
   pub said_fresh : (item : Item) → HasNewName (earlier_of d labels) item → IsFresh d item
   said_fresh (ALabel name) new = same name ∙ new
-  said_fresh Nothing new = tt
-  said_fresh (AnObject p) new = tt
-  said_fresh (ABank b) new = tt
-  said_fresh (ASymbol s) new = tt
-  said_fresh (ANote mask claims) new = tt
-  said_fresh (AnInstruction i t) new = tt
+  said_fresh other new = tt
 
   -- a line that encodes an item in range is tested for its name and room
   line_judged : (n : ℕ) (line : List ℕ) (item : Item) → SpellsInRange (earlier_of d labels) line after item

@@ -4,17 +4,10 @@ use Rattle.std.proofs.Common.{◌≡◌, ℕ, ◌≤◌, Bool, true, false, not,
 use Rattle.std.specs.Prelude.{◌&&◌, bytes_eq, codes, is_none}
 use Rattle.std.proofs.lemmas.Bool.{and_parts, leb-true, ltb-false, not-true, eqb-true}
 use Rattle.std.proofs.lemmas.List.{nil_from_length}
-use Rattle.gr_word.specs.Names.{is_name}
-use Rattle.lt_isa.specs.Ranges.{NoteFits, next_place}
-use Rattle.lt_isa.specs.SymbolPlaces.{LiesBehind}
+use Rattle.gr_word.specs.Prelude.{is_name}
+use Rattle.lt_isa.specs.Prelude.{NoteFits, next_place, LiesBehind}
 use Rattle.lt_assembler.specs.declared.faults.Fault.{Fault}
-use Rattle.lt_assembler.specs.Words.{Word}
-use Rattle.lt_assembler.specs.Drafts.{Labels, Draft, place_of, takes_bank, takes_symbol, takes_code, is_noted}
-use Rattle.lt_assembler.specs.Reading.{object_line, bank_line, width, is_new, has_room, symbol_line, note_line, label_name, label_line, code_line, label_or_code, by_first_word, instruction_follows}
-use Rattle.lt_assembler.specs.Items.{Item, Nothing, AnObject, ABank, ASymbol, ALabel, ANote, AnInstruction, WordsSpell, Empty, Object, Bank, Variable, Label, Noted}
-use Rattle.lt_assembler.specs.Forms.{HasForm}
-use Rattle.lt_assembler.specs.Forms as form
-use Rattle.lt_assembler.specs.LineRules.{FitsRanges}
+use Rattle.lt_assembler.specs.Prelude.{Word, Labels, Draft, place_of, takes_bank, takes_symbol, takes_code, is_noted, object_line, bank_line, width, is_new, has_room, symbol_line, note_line, label_name, label_line, code_line, label_or_code, by_first_word, instruction_follows, Item, Nothing, AnObject, ABank, ASymbol, ALabel, ANote, AnInstruction, WordsSpell, Empty, Object, Bank, Variable, Label, Noted, HasForm, FitsRanges}
 use Rattle.lt_assembler.proofs.Added.{is_none-stage, takes_bank-stage, takes_symbol-stage}
 use Rattle.lt_assembler.proofs.CodeLines.{note_fits}
 use Rattle.lt_assembler.proofs.Earlier.{earlier_of, width_is}
@@ -25,6 +18,7 @@ use Rattle.lt_assembler.proofs.NamedWords.{same_word}
 use Rattle.lt_assembler.proofs.ReadsForm.{form_as, LineReads, line_ok, line_if, line_then, line_name, line_limit}
 use Rattle.lt_assembler.proofs.SymbolRanges.{symbol_lies}
 use Rattle.lt_assembler.proofs.Waiting.{ends_in}
+use Rattle.lt_assembler.specs.Forms as form
 
 -- words encode an item in range
 pub record SpellIn (d : Draft) (labels : Labels) (ws : List Word) : Type 0 where

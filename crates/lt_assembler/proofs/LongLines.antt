@@ -5,20 +5,13 @@ use Rattle.lt_assembler.specs.declared.mnemonics.Mnemonic.{Mnemonic}
 use Rattle.lt_assembler.specs.declared.mnemonics.Mnemonic.TheVariants.{Nop}
 use Rattle.lt_assembler.specs.declared.faults.Fault.{Fault}
 use Rattle.lt_assembler.specs.declared.faults.Fault.TheVariants.{WrongForm}
-use Rattle.lt_assembler.specs.Words.{Word}
-use Rattle.lt_assembler.specs.Operands.{mnemonic_named}
-use Rattle.gr_base.specs.Results.{◌>>=◌}
-use Rattle.lt_assembler.specs.Faults.{unless_not}
+use Rattle.lt_assembler.specs.Prelude.{Word, mnemonic_named, unless_not, is_ascii_line, first_line, line_words, Draft, takes_bank, takes_symbol, takes_code, is_noted, profile_read, object_line, bank_read, bank_line, symbol_read, symbol_line, width, note_read, note_line, label_name, label_line, code_line, label_or_code, by_first_word, line_read, is_instruction_line, Coded, li_read, alu_read, ldb_read, stb_read, idb_read, access_read, jmp_read, br_read, operands_read, instruction_read, is_instruction}
+use Rattle.gr_base.specs.Prelude.{◌>>=◌}
 use Rattle.std.proofs.lemmas.Bool.Decides.{nat_tests}
 use Rattle.lt_isa.specs.declared.profiles.BankSpec.{BankSpec}
 use Rattle.lt_isa.specs.declared.symbols.Symbol.{Symbol}
-use Rattle.lt_assembler.specs.Lines.{is_ascii_line}
-use Rattle.lt_assembler.specs.LineParts.{first_line, line_words}
 use Rattle.lt_assembler.proofs.Splitting.{on_test}
-use Rattle.lt_assembler.specs.Drafts.{Draft, takes_bank, takes_symbol, takes_code, is_noted}
-use Rattle.lt_assembler.specs.Reading.{profile_read, object_line, bank_read, bank_line, symbol_read, symbol_line, width, note_read, note_line, label_name, label_line, code_line, label_or_code, by_first_word, line_read, is_instruction_line}
-use Rattle.gr_word.specs.Names.{is_name}
-use Rattle.lt_assembler.specs.Instructions.{Coded, li_read, alu_read, ldb_read, stb_read, idb_read, access_read, jmp_read, br_read, operands_read, instruction_read, is_instruction}
+use Rattle.gr_word.specs.Prelude.{is_name}
 
 -- a list of more than ten words, taken apart
 data IsLong : List Word → Type 0 where

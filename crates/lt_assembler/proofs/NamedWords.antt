@@ -7,11 +7,8 @@ use Rattle.gr_word.specs.declared.operations.Op.{Op}
 use Rattle.gr_word.specs.declared.operations.Op.TheVariants.{Add}
 use Rattle.lt_assembler.specs.declared.mnemonics.Mnemonic.{Mnemonic}
 use Rattle.lt_assembler.specs.declared.mnemonics.Mnemonic.TheVariants.{Alu}
-use Rattle.lt_isa.specs.InstructionTable.{op_word, operations}
-use Rattle.lt_assembler.specs.Words.{Word}
-use Rattle.lt_assembler.specs.Operands.{named, op_named, mnemonic_word, mnemonics, mnemonic_named}
-use Rattle.lt_assembler.specs.Instructions.{instruction_read, is_instruction}
-use Rattle.lt_assembler.specs.Reading.{label_name}
+use Rattle.lt_isa.specs.Prelude.{op_word, operations}
+use Rattle.lt_assembler.specs.Prelude.{Word, named, op_named, mnemonic_word, mnemonics, mnemonic_named, instruction_read, is_instruction, label_name}
 use Rattle.gr_base.proofs.Results.{some_is}
 
 -- words that the test finds equal are equal

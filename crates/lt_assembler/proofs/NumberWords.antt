@@ -15,11 +15,9 @@ use Rattle.std.proofs.lemmas.Fmt.{decimal_is_IsNumeral, length-decimal-le}
 use Rattle.std.proofs.lemmas.Str.Parse.{digit_from_value}
 use Rattle.gr_base.proofs.Digits.{decimal_canonical, numeral_value}
 use Rattle.gr_base.proofs.ListTests.{list_all-push, is_within-Within}
-use Rattle.gr_word.specs.Words.{IsWord}
-use Rattle.lt_isa.specs.Ranges.{IsRegister, IsSlot, is_slot_claim}
-use Rattle.lt_assembler.specs.Words.{Word, register_word, bank_word, claim_word, hex_digit, hex_word}
-use Rattle.lt_assembler.specs.Numbers.{is_number, number_within, begins_with, constant_of, forward_of, backward_of}
-use Rattle.lt_assembler.specs.Operands.{register_of, slot_named, bank_named, is_hex, mask_of, claim_of, claims_of}
+use Rattle.gr_word.specs.Prelude.{IsWord}
+use Rattle.lt_isa.specs.Prelude.{IsRegister, IsSlot, is_slot_claim}
+use Rattle.lt_assembler.specs.Prelude.{Word, register_word, bank_word, claim_word, hex_digit, hex_word, is_number, number_within, begins_with, constant_of, forward_of, backward_of, register_of, slot_named, bank_named, is_hex, mask_of, claim_of, claims_of}
 use Rattle.lt_assembler.proofs.Splitting.{on_test}
 use Rattle.lt_assembler.proofs.PlainWords.{is_plain, IsPlain}
 

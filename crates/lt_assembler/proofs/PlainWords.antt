@@ -1,21 +1,13 @@
 -- Words of plain bytes that are joined into lines are split into the same words.
-use Rattle.std.proofs.Common.{◌≡◌, ℕ, ◌+◌, Bool, true, false, not, eqb, leb, List, [], ◌∷◌, ◌++◌, map, Result, Ok, Err, refl, ap, ◌∙◌, append_assoc, arith}
+use Rattle.std.proofs.Common.{◌≡◌, ℕ, ◌+◌, Bool, true, false, not, eqb, leb, List, [], ◌∷◌, ◌++◌, map, refl, ap, ◌∙◌, append_assoc, arith}
 use Rattle.std.specs.Prelude.{◌&&◌, flat_map}
-use Rattle.std.specs.List.{All, list_all, list_any, prefix_len, onto_first, join_with_byte}
+use Rattle.std.specs.List.{All, list_all, prefix_len, onto_first, join_with_byte}
 use Rattle.std.specs.Char.{is_ascii}
 use Rattle.std.proofs.lemmas.Bool.{and_parts, and_from}
 use Rattle.std.proofs.lemmas.Bool.Decides.{nat_tests}
 use Rattle.std.proofs.lemmas.List.Elements.{All-nil, All-cons}
 use Rattle.std.proofs.lemmas.List.Splits.{slice_split_none, slice_split_at}
-use Rattle.lt_assembler.specs.declared.errors.AsmError.{AsmError}
-use Rattle.lt_assembler.specs.Words.{Word}
-use Rattle.lt_assembler.specs.Lines.{lines, is_semicolon, uncommented, is_blank, has_bytes, pieces, words, is_ascii_line}
-use Rattle.lt_assembler.specs.Canonical.{line}
-use Rattle.gr_base.specs.Results.{◌>>=◌}
-use Rattle.lt_assembler.specs.Faults.{in_line}
-use Rattle.lt_assembler.specs.Instructions.{is_instruction}
-use Rattle.lt_assembler.specs.Drafts.{Draft}
-use Rattle.lt_assembler.specs.Reading.{by_first_word, line_read, is_instruction_line, instruction_follows, read_lines}
+use Rattle.lt_assembler.specs.Prelude.{Word, lines, is_semicolon, uncommented, is_blank, has_bytes, pieces, words, is_ascii_line, line}
 use Rattle.lt_assembler.proofs.Splitting.{one_more}
 
 -- a byte that is allowed in a word, and one that is allowed in a line
@@ -130,37 +122,3 @@ pub ascii_joined : (ws : List Word) → ArePlain ws → is_ascii_line (joined ws
 ascii_joined ws h = ascii_of_line (joined ws) (joined_bytes ws h)
 
 -- reading lines as their words
-
-read_joined : (n : ℕ) (follows : Bool) (ws : List Word) (d : Draft)
-    → ArePlain ws → line_read n follows (joined ws) d ≡ by_first_word n follows ws d
-unfolding line_read
-read_joined n follows ws d h =
-    rw (ascii_joined ws h) (ap (λ (us : List Word). by_first_word n follows us d) (words_joined ws h))
-
-instruction_joined : (ws : List Word) → ArePlain ws → is_instruction_line (joined ws) ≡ is_instruction ws
-unfolding is_instruction_line
-instruction_joined ws h = rw (ascii_joined ws h) (ap is_instruction (words_joined ws h))
-
-abbrev pub some_instruction : List (List Word) → Bool
-some_instruction wss = list_any is_instruction wss
-
-follows_joined : (wss : List (List Word)) → AreLines wss → instruction_follows (map joined wss) ≡ some_instruction wss
-follows_joined [] h = refl
-follows_joined (ws ∷ wss) h = rw (instruction_joined ws h.0, follows_joined wss h.1) refl
-
-unfoldable pub lists_read : ℕ → List (List Word) → Draft → Result Draft AsmError
-lists_read n [] d = Ok d
-lists_read n (ws ∷ wss) d = in_line n (by_first_word n (some_instruction wss) ws d) >>= lists_read (n + 1) wss
-
-then_same : (r : Result Draft AsmError) (f g : Draft → Result Draft AsmError)
-    → ((d : Draft) → f d ≡ g d) → (r >>= f) ≡ (r >>= g)
-then_same (Ok d) f g h = h d
-then_same (Err e) f g h = refl
-
-pub lines_joined : (n : ℕ) (wss : List (List Word)) (d : Draft)
-    → AreLines wss → read_lines n (map joined wss) d ≡ lists_read n wss d
-unfolding read_lines lists_read
-lines_joined n [] d h = refl
-lines_joined n (ws ∷ wss) d h =
-    rw (follows_joined wss h.1, read_joined n (some_instruction wss) ws d h.0)
-    (then_same (in_line n (by_first_word n (some_instruction wss) ws d)) _ _ (λ e. lines_joined (n + 1) wss e h.1))

@@ -1,12 +1,11 @@
 -- Steps in a chain that read words: what their results say about the words.
 use Rattle.std.proofs.Common.{◌≡◌, Bool, true, false, Option, Some, None, Result, Ok, Err, refl}
 use Rattle.std.specs.Prelude.{◌||◌}
-use Rattle.gr_base.specs.Results.{◌>>=◌}
+use Rattle.gr_base.specs.Prelude.{◌>>=◌}
 use Rattle.gr_base.proofs.Results.{IfRead, read_ok, read_err}
 use Rattle.lt_assembler.specs.declared.faults.Fault.{Fault}
 use Rattle.lt_assembler.specs.declared.faults.Fault.TheVariants.{WrongForm, Number, RepeatedName, Limit, Memory}
-use Rattle.lt_assembler.specs.Faults.{form, number_or, unless_not}
-use Rattle.lt_assembler.specs.Drafts.{Draft}
+use Rattle.lt_assembler.specs.Prelude.{form, number_or, unless_not, Draft}
 
 -- tests of which one is true, and a test that is false
 pub or_left : (a b : Bool) → a ≡ true → (a || b) ≡ true

@@ -7,14 +7,8 @@ use Rattle.std.proofs.Math.Seq.{set-append_seam, get_or-append_seam}
 use Rattle.lt_isa.specs.declared.instructions.Instr.{Instr}
 use Rattle.lt_isa.specs.declared.instructions.Instr.TheVariants.{Nop}
 use Rattle.lt_assembler.specs.declared.errors.AsmError.TheVariants.{UnknownName}
-use Rattle.lt_assembler.specs.Words.{Word}
-use Rattle.lt_assembler.specs.Instructions.{offset_to}
-use Rattle.lt_assembler.specs.Drafts.{Use, Labels, place_of}
-use Rattle.lt_assembler.specs.Assembled.{aimed, settled}
-use Rattle.lt_isa.specs.InstructionTable.{with_offset}
-use Rattle.lt_assembler.specs.Items.{ToPlace, ToLabel, Item, Nothing, AnObject, ABank, ASymbol, ALabel, ANote, AnInstruction}
-use Rattle.lt_assembler.specs.Spelled.{gathered, instruction_in}
-use Rattle.lt_assembler.specs.FirstFaults.{LeadsToKnown}
+use Rattle.lt_assembler.specs.Prelude.{Word, offset_to, Use, Labels, place_of, aimed, settled, ToPlace, ToLabel, Item, Nothing, AnObject, ABank, ASymbol, ALabel, ANote, AnInstruction, gathered, instruction_in, LeadsToKnown}
+use Rattle.lt_isa.specs.Prelude.{with_offset}
 use Rattle.lt_assembler.proofs.Gathered.{listed, raw_in, use_in, SameLabels}
 
 -- the item of this line is the first that uses a label without a place

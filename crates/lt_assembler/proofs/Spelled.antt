@@ -2,16 +2,11 @@
 use Rattle.std.proofs.Common.{◌≡◌, ℕ, ◌+◌, Bool, true, false, cond, List, [], ◌++◌, length, map, Option, Some, None, Result, Ok, Err, refl, sym, ap, subst, ◌∙◌}
 use Rattle.lt_isa.specs.declared.profiles.Profile.{Profile}
 use Rattle.lt_isa.specs.declared.instructions.Instr.{Instr}
-use Rattle.lt_isa.specs.Object.{Parts}
+use Rattle.lt_isa.specs.Prelude.{Parts}
 use Rattle.lt_assembler.specs.declared.errors.AsmError.{AsmError}
 use Rattle.lt_assembler.specs.declared.errors.AsmError.TheVariants.{BadLine, UnknownName}
-use Rattle.lt_assembler.specs.Lines.{lines}
-use Rattle.gr_base.specs.Results.{◌>>=◌}
-use Rattle.lt_assembler.specs.Drafts.{Labels, Draft, empty_draft}
-use Rattle.lt_assembler.specs.Reading.{read_lines}
-use Rattle.lt_assembler.specs.Assembled.{settled, parts_of, is_whole, finished_with, finished, assembled}
-use Rattle.lt_assembler.specs.Items.{Item}
-use Rattle.lt_assembler.specs.Spelled.{StagesInOrder, gathered, profile_in, bank_in, symbol_in, note_in, instruction_in, labels_in, AreOnce, ItemsSpell, SpellsInText}
+use Rattle.lt_assembler.specs.Prelude.{lines, Labels, Draft, empty_draft, read_lines, settled, parts_of, is_whole, finished_with, finished, assembled, Item, StagesInOrder, gathered, profile_in, bank_in, symbol_in, note_in, instruction_in, labels_in, AreOnce, ItemsSpell, SpellsInText}
+use Rattle.gr_base.specs.Prelude.{◌>>=◌}
 use Rattle.gr_base.proofs.Results.{IfRead, read_ok, read_err, read_then, ok_is}
 use Rattle.lt_assembler.proofs.Added.{adds, AreFresh, stage_in, IsHeaded}
 use Rattle.lt_assembler.proofs.Gathered.{Gathers, adds-gathered, adds-listed, profile_gathers, banks_gather, symbols_gather, notes_gather, raw_in, code_gathers, use_in, listed, uses_gather, option_list, SameLabels, labels_are}

@@ -8,7 +8,7 @@ use Rattle.std.proofs.lemmas.List.{append-nil, length-map}
 use Rattle.std.proofs.lemmas.List.Elements.{All-head, All-tail}
 use Rattle.std.proofs.Math.Nat.{pow-le-pow_right}
 use Rattle.gr_word.specs.declared.operations.Cmp.{Cmp}
-use Rattle.gr_base.specs.Lists.{Within, EachAfter}
+use Rattle.gr_base.specs.Prelude.{Within, EachAfter}
 use Rattle.gr_base.proofs.EachAfter.{EachAfter-at, EachBelow-from_after}
 use Rattle.lt_isa.specs.declared.profiles.Profile.{Profile}
 use Rattle.lt_isa.specs.declared.profiles.BankSpec.{BankSpec}
@@ -16,18 +16,9 @@ use Rattle.lt_isa.specs.declared.symbols.Symbol.{Symbol}
 use Rattle.lt_isa.specs.declared.symbols.Note.{Note}
 use Rattle.lt_isa.specs.declared.instructions.Instr.{Instr}
 use Rattle.lt_isa.specs.declared.instructions.Instr.TheVariants.{Br}
-use Rattle.lt_isa.specs.Object.{Parts, no_bank}
-use Rattle.lt_isa.specs.Ranges.{ProfileFits, BankFits, SymbolFits, NoteFits, InstrFits, IsInRange}
+use Rattle.lt_isa.specs.Prelude.{Parts, no_bank, ProfileFits, BankFits, SymbolFits, NoteFits, InstrFits, IsInRange, with_offset}
 use Rattle.lt_isa.proofs.NotePlaces.{notes-inside}
-use Rattle.lt_assembler.specs.Words.{Word}
-use Rattle.lt_assembler.specs.Lines.{lines, words, is_ascii_line}
-use Rattle.lt_assembler.specs.Instructions.{offset_to, is_instruction}
-use Rattle.lt_assembler.specs.Drafts.{Labels, Draft, empty_draft, place_of, takes_code}
-use Rattle.lt_assembler.specs.Reading.{width, by_first_word, line_read, is_instruction_line, instruction_follows, read_lines}
-use Rattle.lt_assembler.specs.Assembled.{settled, parts_of, is_whole, assembled}
-use Rattle.lt_isa.specs.InstructionTable.{with_offset}
-use Rattle.lt_assembler.specs.Items.{Target, ToPlace, ToLabel, Item, Nothing, AnObject, ABank, ASymbol, ALabel, ANote, AnInstruction, WordsSpell, Instruction, Jump, Branch}
-use Rattle.lt_assembler.specs.Spelled.{LinesSpell, Stands, StagesInOrder, gathered, profile_in, bank_in, symbol_in, note_in, leading, instruction_in, labels_in, ItemsSpell, SpellsInText}
+use Rattle.lt_assembler.specs.Prelude.{Word, lines, words, is_ascii_line, offset_to, is_instruction, Labels, Draft, empty_draft, place_of, takes_code, width, by_first_word, line_read, is_instruction_line, instruction_follows, read_lines, settled, parts_of, is_whole, assembled, Target, ToPlace, ToLabel, Item, Nothing, AnObject, ABank, ASymbol, ALabel, ANote, AnInstruction, WordsSpell, Instruction, Jump, Branch, LinesSpell, Stands, StagesInOrder, gathered, profile_in, bank_in, symbol_in, note_in, leading, instruction_in, labels_in, ItemsSpell, SpellsInText}
 use Rattle.lt_assembler.proofs.Added.{added, adds, AreFresh, stage_in, IsHeaded, IsHeaded-added, stage-takes_bank, stage-takes_symbol, stage-is_none}
 use Rattle.lt_assembler.proofs.CanonicalWords.{HasSmallNumbers}
 use Rattle.gr_base.proofs.Results.{some_is}

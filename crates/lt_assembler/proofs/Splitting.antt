@@ -1,7 +1,7 @@
 -- The first line of a text.
 use Rattle.std.proofs.Common.{◌≡◌, ℕ, zero, suc, ◌+◌, ◌<◌, Bool, true, false, not, eqb, List, [], ◌∷◌, length, take, drop, refl, ap, arith}
 use Rattle.std.specs.List.{prefix_len, onto_first}
-use Rattle.lt_assembler.specs.Lines.{lines}
+use Rattle.lt_assembler.specs.Prelude.{lines}
 
 -- both results of a test
 pub on_test : {P : Type 0} (b : Bool) → (b ≡ true → P) → (b ≡ false → P) → P

@@ -6,21 +6,16 @@ use Rattle.gr_word.specs.declared.variables.Label.{Label}
 use Rattle.gr_word.specs.declared.variables.Label.TheVariants.{Public, Secret}
 use Rattle.gr_word.specs.declared.variables.Shape.{Shape}
 use Rattle.gr_word.specs.declared.variables.Shape.TheVariants.{Scalar, Array}
-use Rattle.gr_word.specs.Names.{is_name}
+use Rattle.gr_word.specs.Prelude.{is_name}
 use Rattle.lt_isa.specs.declared.profiles.BankSpec.{BankSpec}
 use Rattle.lt_isa.specs.declared.symbols.Symbol.{Symbol}
-use Rattle.lt_isa.specs.Object.{no_bank}
-use Rattle.gr_base.specs.Lists.{EachAfter}
-use Rattle.lt_isa.specs.Ranges.{BankFits, SymbolFits}
+use Rattle.lt_isa.specs.Prelude.{no_bank, BankFits, SymbolFits, LiesBehind, last_bank, blocks_in, first_free_word, most_length}
+use Rattle.gr_base.specs.Prelude.{EachAfter}
 use Rattle.lt_isa.proofs.OtherNames.{others}
 use Rattle.lt_isa.proofs.SymbolPlaces.{lies_by_fields}
-use Rattle.lt_isa.specs.SymbolPlaces.{LiesBehind, last_bank, blocks_in, first_free_word, most_length}
 use Rattle.gr_base.proofs.EachAfter.{EachBelow-from_after}
 use Rattle.lt_assembler.specs.declared.symbol_lines.Site.{Site}
-use Rattle.lt_assembler.specs.Words.{Word, label_word, shape_word}
-use Rattle.lt_assembler.specs.Canonical.{words_for_symbol}
-use Rattle.lt_assembler.specs.Operands.{label_named, shape_named}
-use Rattle.lt_assembler.specs.Reading.{site_read, symbol_read, four, is_new, has_room}
+use Rattle.lt_assembler.specs.Prelude.{Word, label_word, shape_word, words_for_symbol, label_named, shape_named, site_read, symbol_read, four, is_new, has_room}
 use Rattle.lt_assembler.proofs.Found.{number_from}
 use Rattle.lt_assembler.proofs.ReadsForm.{ReadsForm, form_ok, no_form, form_then, named_then, number_then, form_if}
 use Rattle.lt_assembler.proofs.NamedWords.{named_is}

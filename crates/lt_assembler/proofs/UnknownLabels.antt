@@ -3,11 +3,7 @@ use Rattle.std.proofs.Common.{◌≡◌, ℕ, suc, true, List, [], ◌∷◌, �
 use Rattle.std.specs.Prelude.{All, is_some}
 use Rattle.std.proofs.lemmas.List.Elements.{All-head, All-tail}
 use Rattle.lt_isa.specs.declared.instructions.Instr.{Instr}
-use Rattle.lt_assembler.specs.Words.{Word}
-use Rattle.lt_assembler.specs.Drafts.{Labels, place_of}
-use Rattle.lt_assembler.specs.Items.{ToLabel, Item, AnInstruction}
-use Rattle.lt_assembler.specs.Spelled.{labels_in}
-use Rattle.lt_assembler.specs.FirstFaults.{LeadsToKnown, IsUnknown}
+use Rattle.lt_assembler.specs.Prelude.{Word, Labels, place_of, ToLabel, Item, AnInstruction, labels_in, LeadsToKnown, IsUnknown}
 use Rattle.lt_assembler.proofs.Settled.{IsUnknownUse}
 
 -- the first item of a list that lacks a property is at one place

@@ -5,18 +5,10 @@ use Rattle.std.specs.Prelude.{◌&&◌, ◌||◌, bytes_eq, codes, is_none}
 use Rattle.std.proofs.lemmas.Bool.{and_parts, ltb-true, eqb-true}
 use Rattle.std.proofs.lemmas.Option.{cond_some}
 use Rattle.std.proofs.lemmas.List.{take_all, take_more}
-use Rattle.gr_word.specs.Names.{is_name}
+use Rattle.gr_word.specs.Prelude.{is_name}
 use Rattle.lt_assembler.specs.declared.faults.Fault.{Fault}
 use Rattle.lt_assembler.specs.declared.faults.Fault.TheVariants.{WrongForm, RepeatedName, Limit}
-use Rattle.lt_assembler.specs.Words.{Word}
-use Rattle.lt_assembler.specs.Lines.{words, is_ascii_line}
-use Rattle.lt_assembler.specs.Operands.{mnemonic_named}
-use Rattle.lt_assembler.specs.Faults.{in_line}
-use Rattle.lt_assembler.specs.Instructions.{is_instruction, instruction_read}
-use Rattle.lt_assembler.specs.Drafts.{Draft, place_of, takes_bank, takes_symbol, takes_code, is_noted}
-use Rattle.lt_assembler.specs.Reading.{profile_read, object_line, bank_read, bank_line, symbol_read, width, is_new, has_room, symbol_line, note_read, note_line, label_name, label_line, code_line, label_or_code, by_first_word, line_read, is_instruction_line, instruction_follows, read_lines}
-use Rattle.lt_assembler.specs.Items.{Item, Nothing, Empty}
-use Rattle.lt_assembler.specs.Spelled.{LinesSpell, StagesInOrder, stage_behind}
+use Rattle.lt_assembler.specs.Prelude.{Word, words, is_ascii_line, mnemonic_named, in_line, is_instruction, instruction_read, Draft, place_of, takes_bank, takes_symbol, takes_code, is_noted, profile_read, object_line, bank_read, bank_line, symbol_read, width, is_new, has_room, symbol_line, note_read, note_line, label_name, label_line, code_line, label_or_code, by_first_word, line_read, is_instruction_line, instruction_follows, read_lines, Item, Nothing, Empty, LinesSpell, StagesInOrder, stage_behind}
 use Rattle.lt_assembler.proofs.Added.{adds, AreFresh, stage_in, stage-added}
 use Rattle.lt_assembler.proofs.Found.{read_if}
 use Rattle.gr_base.proofs.Results.{IfRead, read_ok, read_err, read_then, read_weaker}

@@ -9,10 +9,8 @@ use Rattle.std.proofs.lemmas.Bool.Decides.{nat_tests}
 use Rattle.std.proofs.lemmas.Option.{cond_some}
 use Rattle.std.proofs.lemmas.List.{take_more, take_all}
 use Rattle.std.proofs.lemmas.Int.Digits.{digits_value_more}
-use Rattle.lt_isa.specs.Ranges.{IsRegister, IsSlot}
-use Rattle.lt_assembler.specs.Words.{Word, register_word, bank_word, hex_digit, hex_word}
-use Rattle.lt_assembler.specs.Numbers.{begins_with, but_first, number_within}
-use Rattle.lt_assembler.specs.Operands.{register_of, slot_named, bank_named, is_hex, mask_of}
+use Rattle.lt_isa.specs.Prelude.{IsRegister, IsSlot}
+use Rattle.lt_assembler.specs.Prelude.{Word, register_word, bank_word, hex_digit, hex_word, begins_with, but_first, number_within, register_of, slot_named, bank_named, is_hex, mask_of}
 use Rattle.lt_assembler.proofs.Digits.{mask_fits, hex_digit_value}
 use Rattle.lt_assembler.proofs.Found.{number_from, first_byte, by_answer}
 use Rattle.gr_base.proofs.ListTests.{list_all-get_or}

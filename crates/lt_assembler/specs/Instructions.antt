@@ -8,7 +8,6 @@ use Rattle.gr_word.specs.Names.{is_name}
 use Rattle.lt_isa.specs.declared.instructions.Instr.{Instr}
 use Rattle.lt_isa.specs.declared.instructions.Instr.TheVariants.{Nop, Halt, Li, Alu, Ldb, Stb, Idb, Ldw, Stw, Jmp, Br}
 use Rattle.lt_assembler.specs.declared.mnemonics.Mnemonic.{Mnemonic}
-use Rattle.lt_assembler.specs.declared.mnemonics.Mnemonic.TheVariants as mnemonic
 use Rattle.lt_assembler.specs.declared.faults.Fault.{Fault}
 use Rattle.lt_assembler.specs.declared.faults.Fault.TheVariants.{WrongForm, Number, RepeatedName, Limit, Memory}
 use Rattle.lt_assembler.specs.Words.{Word}
@@ -16,6 +15,7 @@ use Rattle.lt_assembler.specs.Numbers.{begins_with, but_first, number_within, co
 use Rattle.lt_assembler.specs.Operands.{mnemonic_named, cmp_named, register_of, slot_named, bank_named}
 use Rattle.gr_base.specs.Results.{◌>>=◌}
 use Rattle.lt_assembler.specs.Faults.{form, number_or, unless_not}
+use Rattle.lt_assembler.specs.declared.mnemonics.Mnemonic.TheVariants as mnemonic
 
 -- a target: an offset, or a label whose place isn't known yet
 pub record Aim : Type 0 where

@@ -17,3 +17,4 @@ pub mod Forms
 pub mod LineRules
 pub mod FirstFaults
 pub mod Seen
+pub mod Prelude

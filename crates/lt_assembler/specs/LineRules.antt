@@ -7,11 +7,11 @@ use Rattle.lt_isa.specs.Limits.{most_banks, most_symbols, most_symbol_words, mos
 use Rattle.lt_isa.specs.SymbolPlaces.{LiesBehind}
 use Rattle.lt_isa.specs.Ranges.{ProfileFits, BankFits, NoteFits, InstrFits, total_length}
 use Rattle.lt_assembler.specs.declared.faults.Fault.{Fault}
-use Rattle.lt_assembler.specs.declared.faults.Fault.TheVariants as fault
 use Rattle.lt_assembler.specs.Lines.{words, is_ascii_line}
 use Rattle.lt_assembler.specs.Items.{Item, Nothing, AnObject, ABank, ASymbol, ALabel, ANote, AnInstruction, WordsSpell}
 use Rattle.lt_assembler.specs.Earlier.{Earlier, block_words_by}
 use Rattle.lt_assembler.specs.Forms.{HasForm}
+use Rattle.lt_assembler.specs.declared.faults.Fault.TheVariants as fault
 
 -- A line is ASCII, and its words have a form that is allowed there.
 pub record IsOfForm (e : Earlier) (line : List ℕ) (after : List (List ℕ)) : Type 0 where

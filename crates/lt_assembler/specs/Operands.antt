@@ -13,13 +13,13 @@ use Rattle.gr_word.specs.declared.variables.Label.TheVariants.{Public, Secret}
 use Rattle.gr_word.specs.declared.variables.Shape.{Shape}
 use Rattle.gr_word.specs.declared.variables.Shape.TheVariants.{Scalar, Array}
 use Rattle.lt_assembler.specs.declared.mnemonics.Mnemonic.{Mnemonic}
-use Rattle.lt_assembler.specs.declared.mnemonics.Mnemonic.TheVariants as mnemonic
-use Rattle.lt_isa.specs.declared.instruction_table.Kind.TheVariants as kind
 use Rattle.lt_isa.specs.Limits.{fewest_banks, most_banks}
 use Rattle.lt_isa.specs.InstructionTable.{operations, comparisons, op_word, cmp_word, mnemonic_of}
 use Rattle.lt_isa.specs.Ranges.{any_bank}
 use Rattle.lt_assembler.specs.Words.{Word, label_word, shape_word}
 use Rattle.lt_assembler.specs.Numbers.{begins_with, but_first, number_within}
+use Rattle.lt_assembler.specs.declared.mnemonics.Mnemonic.TheVariants as mnemonic
+use Rattle.lt_isa.specs.declared.instruction_table.Kind.TheVariants as kind
 
 -- the first item that a word names
 abbrev pub named : {X : Type 0} → (X → Word) → List X → Word → Option X

@@ -1,6 +1,5 @@
 ghost use Rattle.std.specs.Prelude.{◌≡◌, ◌≢◌, ◌≤◌, ◌==◌, ◌&&◌, not, nat_le, length, Ok, IfOk, IfErr, MatchResult};
-ghost use Rattle.lt_isa.specs.Object.{Parts};
-ghost use Rattle.lt_isa.specs.Ranges.{IsInRange};
+ghost use Rattle.lt_isa.specs.Prelude.{Parts, IsInRange};
 ghost use Rattle.lt_assembler.specs.Faults.{Finds};
 ghost use Rattle.lt_assembler.specs.Assembled.{finished, text_read, assembled};
 ghost use Rattle.lt_assembler.specs.FirstFaults.{IsFirstTextFault};

@@ -1,6 +1,6 @@
 ghost use Rattle.std.specs.Prelude.{◌≡◌, ◌≤◌, ◌<◌, [], length, map, option_map, slice_index_or};
 ghost use Rattle.std.specs.List.{list_any};
-ghost use Rattle.lt_isa.specs.Limits.{most_banks};
+ghost use Rattle.lt_isa.specs.Prelude.{most_banks};
 ghost use Rattle.lt_assembler.specs.Operands.{claim_of, claims_of};
 ghost use Rattle.lt_assembler.specs.Faults.{Becomes};
 ghost use Rattle.lt_assembler.specs.Lines.{lines};

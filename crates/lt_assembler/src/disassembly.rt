@@ -1,18 +1,6 @@
 ghost use Rattle.std.specs.Prelude.{◌≡◌, ◌≤◌, length, [], ◌∷◌, ◌++◌, map, flat_map, codes, decimal, OnOk, IfOk};
-ghost use Rattle.lt_isa.specs.Ranges.{IsInRange};
-ghost use Rattle.lt_assembler.specs.Canonical.{
-  cycles_words,
-  window_words,
-  object_words,
-  words_for_bank,
-  words_for_symbol,
-  note_words,
-  instruction_words,
-  starts_at,
-  code_words,
-  line,
-  canonical,
-};
+ghost use Rattle.lt_isa.specs.Prelude.{IsInRange};
+ghost use Rattle.lt_assembler.specs.Canonical.{cycles_words, window_words, object_words, words_for_bank, words_for_symbol, note_words, instruction_words, starts_at, code_words, line, canonical};
 ghost use Rattle.lt_assembler.specs.Words.{label_word, shape_word, register_word, claim_word};
 
 use crate::putting::{

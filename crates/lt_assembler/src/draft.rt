@@ -1,6 +1,6 @@
 ghost use Rattle.std.specs.Prelude.{◌≤◌, vec_len};
 ghost use Rattle.std.specs.Option.{ForSome};
-ghost use Rattle.lt_isa.specs.Limits.{most_block_log, most_banks, most_symbols, most_instructions};
+ghost use Rattle.lt_isa.specs.Prelude.{most_block_log, most_banks, most_symbols, most_instructions};
 
 use crate::label_keys::Labels;
 use lt_isa::{BankSpec, Instr, Note, Profile, Symbol};

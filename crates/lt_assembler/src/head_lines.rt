@@ -1,5 +1,5 @@
 ghost use Rattle.std.specs.Prelude.{◌≡◌, ◌≤◌, map, IfOk};
-ghost use Rattle.lt_isa.specs.Limits.{most_block_log};
+ghost use Rattle.lt_isa.specs.Prelude.{most_block_log};
 ghost use Rattle.lt_assembler.specs.Faults.{Becomes};
 ghost use Rattle.lt_assembler.specs.Reading.{is_version, cycles_read, window_read, profile_read, object_line, bank_read, bank_line};
 ghost use Rattle.lt_assembler.specs.Seen.{draft_of};

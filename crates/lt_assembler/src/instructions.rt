@@ -1,27 +1,8 @@
 ghost use Rattle.std.specs.Prelude.{◌≡◌, ◌≤◌, map, option_map, IfOk};
-ghost use Rattle.lt_isa.specs.Limits.{most_instructions};
+ghost use Rattle.lt_isa.specs.Prelude.{most_instructions};
 ghost use Rattle.lt_assembler.specs.Faults.{Reads, number_or};
 ghost use Rattle.lt_assembler.specs.Numbers.{number_within};
-ghost use Rattle.lt_assembler.specs.Instructions.{
-  li_read,
-  alu_read,
-  ldb_read,
-  stb_read,
-  idb_read,
-  access_read,
-  ldw_read,
-  stw_read,
-  bare_read,
-  arrow_read,
-  aim_read,
-  offset_to,
-  jmp_read,
-  br_read,
-  untargeted_read,
-  operands_read,
-  instruction_read,
-  is_instruction,
-};
+ghost use Rattle.lt_assembler.specs.Instructions.{li_read, alu_read, ldb_read, stb_read, idb_read, access_read, ldw_read, stw_read, bare_read, arrow_read, aim_read, offset_to, jmp_read, br_read, untargeted_read, operands_read, instruction_read, is_instruction};
 
 use crate::faults::Fault;
 use crate::mnemonics::{Mnemonic, cmp_named, mnemonic_named, same};

@@ -1,6 +1,5 @@
 ghost use Rattle.std.specs.Prelude.{◌≡◌, ◌≤◌, ◌↔◌, ℕ, List, length, Ok, Err, MatchResult};
-ghost use Rattle.lt_isa.specs.Object.{Parts};
-ghost use Rattle.lt_isa.specs.Ranges.{IsInRange};
+ghost use Rattle.lt_isa.specs.Prelude.{Parts, IsInRange};
 ghost use Rattle.lt_assembler.specs.declared.errors.AsmError.{AsmError};
 ghost use Rattle.lt_assembler.specs.Canonical.{canonical};
 ghost use Rattle.lt_assembler.specs.Spelled.{SpellsInText};

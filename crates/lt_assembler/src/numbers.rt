@@ -1,16 +1,8 @@
 ghost use Rattle.std.specs.Prelude.{◌≡◌, ◌≤◌, ◌<◌, slice_index, IfOk, IfSome};
 ghost use Rattle.std.specs.Char.{is_ascii_digit};
-ghost use Rattle.gr_base.specs.Lists.{Within};
+ghost use Rattle.gr_base.specs.Prelude.{Within};
 ghost use Rattle.lt_assembler.specs.Faults.{number_or};
-ghost use Rattle.lt_assembler.specs.Numbers.{
-  begins_with,
-  but_first,
-  is_number,
-  number_within,
-  constant_of,
-  forward_of,
-  backward_of,
-};
+ghost use Rattle.lt_assembler.specs.Numbers.{begins_with, but_first, is_number, number_within, constant_of, forward_of, backward_of};
 
 use crate::faults::Fault;
 use gr_base::numerals::{digits_value, is_canonical_numeral};

@@ -1,17 +1,9 @@
 ghost use Rattle.std.specs.Prelude.{◌≡◌, ◌≤◌, ◌<◌, ◌^◌, IfSome, option_map, map};
 ghost use Rattle.std.specs.List.{list_all};
-ghost use Rattle.gr_base.specs.Lists.{Within};
-ghost use Rattle.lt_isa.specs.Limits.{most_banks};
+ghost use Rattle.gr_base.specs.Prelude.{Within};
+ghost use Rattle.lt_isa.specs.Prelude.{most_banks};
 ghost use Rattle.lt_assembler.specs.Faults.{form, number_or};
-ghost use Rattle.lt_assembler.specs.Operands.{
-  register_of,
-  slot_named,
-  bank_named,
-  is_hex,
-  mask_of,
-  claim_of,
-  claims_of,
-};
+ghost use Rattle.lt_assembler.specs.Operands.{register_of, slot_named, bank_named, is_hex, mask_of, claim_of, claims_of};
 
 use crate::faults::Fault;
 use crate::mnemonics::same;

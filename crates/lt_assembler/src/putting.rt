@@ -1,6 +1,6 @@
 ghost use Rattle.std.specs.Prelude.{◌≡◌, ◌<◌, ◌∷◌, ◌++◌, OnOk, decimal, codes};
 ghost use Rattle.std.specs.Fmt.{signed_decimal};
-ghost use Rattle.lt_isa.specs.InstructionTable.{op_word, cmp_word};
+ghost use Rattle.lt_isa.specs.Prelude.{op_word, cmp_word};
 ghost use Rattle.lt_assembler.specs.Words.{label_word, shape_word, register_word, bank_word, claim_word, hex_digit, hex_word, offset_word};
 
 use gr_word::{Label, Memory, Shape};

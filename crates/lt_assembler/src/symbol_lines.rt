@@ -1,9 +1,6 @@
 ghost use Rattle.std.specs.Prelude.{◌≡◌, ◌≤◌, ◌<◌, ◌+◌, ◌*◌, length, map, Some};
-ghost use Rattle.lt_isa.specs.Limits.{most_banks, most_block_log, most_symbols};
-ghost use Rattle.lt_isa.specs.SymbolPlaces.{blocks_in};
-ghost use Rattle.lt_isa.specs.Ranges.{total_length};
+ghost use Rattle.lt_isa.specs.Prelude.{most_banks, most_block_log, most_symbols, blocks_in, total_length, first_free_word, most_length};
 ghost use Rattle.lt_assembler.specs.Faults.{Becomes, Assembles};
-ghost use Rattle.lt_isa.specs.SymbolPlaces.{first_free_word, most_length};
 ghost use Rattle.lt_assembler.specs.Reading.{site_read, symbol_read, width, is_new, has_room, symbol_line};
 ghost use Rattle.lt_assembler.specs.Seen.{draft_of};
 

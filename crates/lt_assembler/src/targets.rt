@@ -1,7 +1,7 @@
 ghost use Rattle.std.specs.Prelude.{◌≡◌, map, slice_set, slice_index_or};
 ghost use Rattle.lt_assembler.specs.Faults.{Finds};
 ghost use Rattle.lt_assembler.specs.Instructions.{offset_to};
-ghost use Rattle.lt_isa.specs.InstructionTable.{with_offset};
+ghost use Rattle.lt_isa.specs.Prelude.{with_offset};
 ghost use Rattle.lt_assembler.specs.Assembled.{settled};
 ghost use Rattle.lt_assembler.specs.Seen.{seen_use, by_name};
 

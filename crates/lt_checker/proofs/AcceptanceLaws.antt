@@ -1,14 +1,11 @@
 -- An object has at most one first refusal, and it has one exactly if it isn't accepted; and what is known is unique.
 use Rattle.std.proofs.Common.{◌≡◌, ℕ, zero, suc, ◌<◌, ◌≤◌, Bool, true, false, MatchBool, length, ◌⊎◌, inl, inr, Option, Some, None, refl, sym, ap, ◌∙◌, subst, ⊎_elim, arith}
 use Rattle.std.proofs.lemmas.Bool.{cases_lt, true≢false}
-use Rattle.lt_isa.specs.Object.{Parts}
+use Rattle.lt_isa.specs.Prelude.{Parts}
 use Rattle.trace_patterns.specs.declared.reasons.Reason.{Reason}
 use Rattle.trace_patterns.specs.declared.reasons.Reason.TheVariants.{SecretSymbolInRam}
-use Rattle.trace_patterns.specs.Known.{Known}
-use Rattle.trace_patterns.specs.Rules.{claimed_at}
-use Rattle.trace_patterns.specs.Visits.{VisitedAt, Noted, Unnoted}
-use Rattle.trace_patterns.specs.Accepts.{Accepts, IsLowestRefusal, FirstRefusal, has_secret_in_ram}
-use Rattle.lt_checker.specs.ByPlace.{Arrival, Here, refusal_at, NoneBelow, IsFirstFound}
+use Rattle.trace_patterns.specs.Prelude.{Known, claimed_at, VisitedAt, Noted, Unnoted, Accepts, IsLowestRefusal, FirstRefusal, has_secret_in_ram}
+use Rattle.lt_checker.specs.Prelude.{Arrival, Here, refusal_at, NoneBelow, IsFirstFound}
 use Rattle.lt_checker.proofs.PlaceRelations.{comes-here}
 use Rattle.lt_checker.proofs.Refusals.{accepted-not_refused, accepts-none, none_is_accepted, lowest-found, found_is_first}
 

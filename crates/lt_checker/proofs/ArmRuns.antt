@@ -3,20 +3,11 @@ use Rattle.std.proofs.Common.{◌≡◌, ℕ, ◌+◌, ◌-◌, Bool, true, fals
 use Rattle.std.specs.Prelude.{slice_get, if◌then◌else◌}
 use Rattle.std.proofs.lemmas.Bool.{cases_Bool}
 use Rattle.gr_word.specs.declared.operations.Cmp.{Cmp}
-use Rattle.gr_word.specs.Words.{compared}
+use Rattle.gr_word.specs.Prelude.{compared}
 use Rattle.lt_isa.specs.declared.instructions.Instr.TheVariants.{Jmp, Br}
-use Rattle.lt_isa.specs.Object.{Parts}
-use Rattle.lt_isa.specs.Ranges.{IsInRange}
-use Rattle.lt_isa.specs.Machine.{State, register}
-use Rattle.lt_isa.specs.Step.{StepResult, Goes, target_of, passed}
-use Rattle.lt_isa.specs.Trace.{Here}
-use Rattle.lt_isa.specs.Shape.{IsShaped}
+use Rattle.lt_isa.specs.Prelude.{Parts, IsInRange, State, register, StepResult, Goes, target_of, passed, Here, IsShaped}
 use Rattle.lt_isa.proofs.Stretches.{reaches-shaped}
-use Rattle.trace_patterns.specs.Patterns.{Shown, no_events, with_gap, joined}
-use Rattle.trace_patterns.specs.Events.{TreeEvent}
-use Rattle.trace_patterns.specs.SymStates.{SymState, common}
-use Rattle.trace_patterns.specs.Single.{gap}
-use Rattle.trace_patterns.specs.Walk.{WalksTo, AtEnd, Onward, Across, CrossesTo, BothArms, untaken_way, taken_way}
+use Rattle.trace_patterns.specs.Prelude.{Shown, no_events, with_gap, joined, TreeEvent, SymState, common, gap, WalksTo, AtEnd, Onward, Across, CrossesTo, BothArms, untaken_way, taken_way}
 use Rattle.trace_patterns.proofs.PatternLaws.{joined-no_events, joined-gap}
 use Rattle.trace_patterns.proofs.Shapes.{IsRegion, shape-arms}
 use Rattle.lt_checker.proofs.PatternValues.{played}

@@ -4,31 +4,20 @@ use Rattle.std.proofs.Common.{◌≡◌, ℕ, ◌+◌, ◌<◌, Bool, false, ◌
 use Rattle.std.specs.Prelude.{slice_get, if◌then◌else◌}
 use Rattle.std.proofs.lemmas.Bool.{eqb-true, eqb-false, or_parts}
 use Rattle.gr_word.specs.declared.operations.Op.{Op}
-use Rattle.gr_word.specs.Words.{applied}
+use Rattle.gr_word.specs.Prelude.{applied}
 use Rattle.lt_isa.specs.declared.instructions.Instr.{Instr}
 use Rattle.lt_isa.specs.declared.instructions.Instr.TheVariants.{Nop, Halt, Li, Alu, Ldb, Stb, Idb, Ldw, Stw, Jmp, Br}
-use Rattle.lt_isa.specs.Object.{Parts, is_ram, is_eram, latency_of}
-use Rattle.lt_isa.specs.Ranges.{IsInRange, InstrFits}
-use Rattle.lt_isa.specs.Machine.{Slot, Bound, State, Observed, register, slot, block_at, word_in, read_event, write_event}
-use Rattle.lt_isa.specs.Machine as seen
-use Rattle.lt_isa.specs.Costs.{cost_of}
-use Rattle.lt_isa.specs.Windows.{access_start}
-use Rattle.lt_isa.specs.Step.{Goes, start_of, with_bound, block_named, word_named, executed, step_start}
-use Rattle.lt_isa.specs.Trace.{Stamped, seen_at, Reaches}
-use Rattle.lt_isa.specs.Shape.{IsShaped}
+use Rattle.lt_isa.specs.Prelude.{Parts, is_ram, is_eram, latency_of, IsInRange, InstrFits, Slot, Bound, State, Observed, register, slot, block_at, word_in, read_event, write_event, cost_of, access_start, Goes, start_of, with_bound, block_named, word_named, executed, step_start, Stamped, seen_at, Reaches, IsShaped}
 use Rattle.lt_isa.proofs.Steps.{step-at, step_start-at, instruction-fits}
 use Rattle.lt_isa.proofs.Stretches.{reaches-step, reaches-append}
-use Rattle.symbolic_values.specs.Trees.{Value, Const}
-use Rattle.trace_patterns.specs.Patterns.{Shown, joined}
-use Rattle.trace_patterns.specs.Events.{TreeEvent, RamRead, EncRead, EncWrite, Oram}
-use Rattle.trace_patterns.specs.SymStates.{Loaded, SymSlot, RamSlot, EramSlot, OramSlot, SymState, tree_held, slot_held, hold_tree, hold_slot}
-use Rattle.trace_patterns.specs.Single as walked
-use Rattle.trace_patterns.specs.Single.{gap, event, named_block, applied_trees, block_held, word_held, single}
-use Rattle.symbolic_values.specs.TreeValues.{as_number, value_of}
+use Rattle.symbolic_values.specs.Prelude.{Value, Const, as_number, value_of}
+use Rattle.trace_patterns.specs.Prelude.{Shown, joined, TreeEvent, RamRead, EncRead, EncWrite, Oram, Loaded, SymSlot, RamSlot, EramSlot, OramSlot, SymState, tree_held, slot_held, hold_tree, hold_slot, gap, event, named_block, applied_trees, block_held, word_held, single}
 use Rattle.lt_checker.proofs.PatternValues.{shown_by, accessed_bank, played, ends, played-joined, ends-joined, ends-gap}
 use Rattle.lt_checker.proofs.Singles.{OnSingle, on_single, on_if, on_tree, on_bound, on_stored, on_stores}
 use Rattle.lt_checker.proofs.Described.{Holds, HoldsEram, HoldsOram, Describes, describes_moved, describes_register, describes_words, describes_slot, describes_block}
 use Rattle.lt_checker.proofs.NamedPlaces.{named_block-value, applied_trees-value, found_by, rebound_by}
+use Rattle.lt_isa.specs.Machine as seen
+use Rattle.trace_patterns.specs.Single as walked
 
 -- a run from a state to a place that shows a pattern, whose trees are evaluated at the entry, with what is known at its
 -- end
@@ -278,7 +267,6 @@ module _ (o : Parts) (fits : IsInRange o) (e s : State) (shaped : IsShaped o s) 
   instr_runs Nop operands at =
       quiet o e s Nop (record s { place = s.place + 1; cycle = s.cycle + 1 }) (s.place + 1) 1 known at refl refl refl
       (describes_moved e known s (s.place + 1) (s.cycle + 1) h)
-  instr_runs Halt operands at = tt
   instr_runs (Li rd value) operands at = li_runs rd value operands.0 at
   instr_runs (Alu op rd ra rb) operands at = alu_runs op rd ra rb operands.0 at
   instr_runs (Ldb k b r) operands at = ldb_runs k b r operands.0 operands.1 at
@@ -286,8 +274,7 @@ module _ (o : Parts) (fits : IsInRange o) (e s : State) (shaped : IsShaped o s) 
   instr_runs (Idb rd k) operands at = idb_runs rd k operands.0 at
   instr_runs (Ldw rd k ro) operands at = ldw_runs rd k ro operands.0 at
   instr_runs (Stw rs k ro) operands at = stw_runs rs k ro operands.1 at
-  instr_runs (Jmp offset) operands at = tt
-  instr_runs (Br cmp ra rb offset) operands at = tt
+  instr_runs other operands at = tt
 
   -- a run of one instruction of an arm shows the instruction's pattern
   pub single_runs : (i : Instr) (shown : Shown TreeEvent) (after : SymState) → slice_get o.code s.place ≡ Some i

@@ -4,26 +4,18 @@ use Rattle.std.proofs.Common.{◌≡◌, ℕ, ◌+◌, ◌-◌, ℤ, pos, List, 
 use Rattle.std.proofs.lemmas.Bool.{cases_eq}
 use Rattle.gr_word.specs.declared.operations.Op.{Op}
 use Rattle.gr_word.specs.declared.operations.Op.TheVariants.{Remu}
-use Rattle.gr_word.specs.Words.{applied}
+use Rattle.gr_word.specs.Prelude.{applied}
 use Rattle.lt_isa.specs.declared.instructions.Instr.{Instr}
 use Rattle.lt_isa.specs.declared.instructions.Instr.TheVariants.{Nop, Halt, Li, Alu, Ldb, Stb, Idb, Ldw, Stw, Jmp, Br}
-use Rattle.lt_isa.specs.Object.{Parts, is_ram, is_eram, blocks_of, block_words}
-use Rattle.lt_isa.specs.Machine.{State, Observed, slot, bank_blocks, block_at, word_in, slot_words}
-use Rattle.lt_isa.specs.Machine as seen
-use Rattle.lt_isa.specs.Windows.{access_start}
-use Rattle.lt_isa.specs.Trace.{Stamped, seen_at}
-use Rattle.symbolic_values.specs.Trees.{Value, Const, Apply}
-use Rattle.trace_patterns.specs.Patterns.{Shown, joined}
-use Rattle.trace_patterns.specs.Events.{TreeEvent, RamRead, EncRead, EncWrite}
-use Rattle.trace_patterns.specs.SymStates.{Origin, Entry, Loaded, SymSlot, AnySlot, RamSlot, EramSlot, OramSlot, SymState, tree_held, slot_held, hold_tree, hold_slot, common_tree, common_slot, common}
-use Rattle.trace_patterns.specs.Single as walked
-use Rattle.trace_patterns.specs.Single.{gap, event, named_block, named_word, word_tree, applied_trees, block_held, word_held, single}
-use Rattle.trace_patterns.specs.Walk.{WalksTo, AtEnd, Onward, Across, CrossesTo, BothArms, untaken_way}
+use Rattle.lt_isa.specs.Prelude.{Parts, is_ram, is_eram, blocks_of, block_words, State, Observed, slot, bank_blocks, block_at, word_in, slot_words, access_start, Stamped, seen_at}
+use Rattle.symbolic_values.specs.Prelude.{Value, Const, Apply, as_number, value_of}
+use Rattle.trace_patterns.specs.Prelude.{Shown, joined, TreeEvent, RamRead, EncRead, EncWrite, Origin, Entry, Loaded, SymSlot, AnySlot, RamSlot, EramSlot, OramSlot, SymState, tree_held, slot_held, hold_tree, hold_slot, common_tree, common_slot, common, gap, event, named_block, named_word, word_tree, applied_trees, block_held, word_held, single, WalksTo, AtEnd, Onward, Across, CrossesTo, BothArms, untaken_way}
 use Rattle.trace_patterns.proofs.SymStateLaws.{tree-common, slot-common, common_tree-cases, common_slot-cases}
 use Rattle.lt_checker.proofs.HeldAnew.{no_tree, tree_anew, slot_anew}
-use Rattle.symbolic_values.specs.TreeValues.{as_number, value_of}
 use Rattle.lt_checker.proofs.PatternValues.{shown_by, played, ends, played-joined}
 use Rattle.lt_checker.proofs.Singles.{OnSingle, on_single, on_if, on_tree, on_bound, on_stored, on_stores}
+use Rattle.lt_isa.specs.Machine as seen
+use Rattle.trace_patterns.specs.Single as walked
 
 -- a tree has the same value at both entries
 abbrev pub TreeAgrees : State → State → Value → Type 0
@@ -165,9 +157,7 @@ module _ (o : Parts) (e f : State) (ram : bank_blocks e 0 ≡ bank_blocks f 0) w
       let same : word_tree origin block (named_word o place) ≡ t = cc in
       subst (TreeAgrees e f) same (word_of-agrees block place origin h.0 h.1 (hp place refl))
   word_agrees (RamSlot block origin) None h hp t is = no_tree t is
-  word_agrees AnySlot place h hp t is = no_tree t is
-  word_agrees (EramSlot block) place h hp t is = no_tree t is
-  word_agrees (OramSlot bank) place h hp t is = no_tree t is
+  word_agrees other place h hp t is = no_tree t is
 
   module _ (known : SymState) (h : Agrees e f known) where
     quietly_agrees : (cost : ℕ) (after : SymState) → Agrees e f after → AgreesBehind o e f (gap cost) after
@@ -176,7 +166,6 @@ module _ (o : Parts) (e f : State) (ram : bank_blocks e 0 ≡ bank_blocks f 0) w
     instr_agrees : (i : Instr) → OnSingle (AgreesBehind o e f) (single o known i)
     unfolding single
     instr_agrees Nop = quietly_agrees 1 known h
-    instr_agrees Halt = tt
     instr_agrees (Li rd value) =
         quietly_agrees 1 _ (agrees_tree e f known h rd _
         (λ t is. let same : Const value ≡ t = cc in subst (TreeAgrees e f) same refl))
@@ -221,8 +210,7 @@ module _ (o : Parts) (e f : State) (ram : bank_blocks e 0 ≡ bank_blocks f 0) w
         quietly_agrees _ _ (agrees_tree e f known h rd _
         (word_agrees (slot_held known k) (tree_held known ro) (h.slots k) (h.trees ro))))
     instr_agrees (Stw rs k ro) = on_stored (AgreesBehind o e f) (slot_held known k) _ (λ is. quietly_agrees _ known h)
-    instr_agrees (Jmp offset) = tt
-    instr_agrees (Br cmp ra rb offset) = tt
+    instr_agrees other = tt
 
     single_agrees : (i : Instr) (shown : Shown TreeEvent) (after : SymState)
         → single o known i ≡ walked.Goes shown after → AgreesBehind o e f shown after

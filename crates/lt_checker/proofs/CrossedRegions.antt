@@ -4,19 +4,10 @@ use Rattle.std.proofs.Common.{◌≡◌, ℕ, ◌+◌, ◌-◌, ◌≤◌, ℤ, 
 use Rattle.std.specs.Prelude.{slice_get}
 use Rattle.gr_word.specs.declared.operations.Cmp.{Cmp}
 use Rattle.lt_isa.specs.declared.instructions.Instr.TheVariants.{Br}
-use Rattle.lt_isa.specs.Object.{Parts}
-use Rattle.lt_isa.specs.Ranges.{IsInRange}
-use Rattle.lt_isa.specs.Machine.{State}
-use Rattle.lt_isa.specs.Trace.{Stamped, Reaches}
-use Rattle.lt_isa.specs.Shape.{IsShaped}
+use Rattle.lt_isa.specs.Prelude.{Parts, IsInRange, State, Stamped, Reaches, IsShaped}
 use Rattle.lt_isa.proofs.Stretches.{reaches-shaped}
 use Rattle.lt_isa.proofs.Lockstep.{Meets}
-use Rattle.trace_patterns.specs.Patterns.{Shown}
-use Rattle.trace_patterns.specs.Events.{TreeEvent}
-use Rattle.trace_patterns.specs.Known.{Known}
-use Rattle.trace_patterns.specs.SymStates.{SymState, at_entry, known_after, common}
-use Rattle.trace_patterns.specs.Walk.{WalksTo, CrossesTo, BothArms, untaken_way}
-use Rattle.trace_patterns.specs.Visits.{CrossesFrom}
+use Rattle.trace_patterns.specs.Prelude.{Shown, TreeEvent, Known, SymState, at_entry, known_after, common, WalksTo, CrossesTo, BothArms, untaken_way, CrossesFrom}
 use Rattle.trace_patterns.proofs.Shapes.{shape-arms}
 use Rattle.lt_checker.proofs.Related.{Related}
 use Rattle.lt_checker.proofs.PatternValues.{played, ends, ends-least}

@@ -3,15 +3,11 @@
 use Rattle.std.proofs.Common.{◌≡◌, ℕ, ◌<◌, Bool, true, false, ℤ, pos, List, [], length, get_or, set, Option, Some, None, ◌⊎◌, inl, inr, refl, sym, ap, ◌∙◌, subst, ⊎_elim, get_or-set_same, get_or-set_other}
 use Rattle.std.specs.Prelude.{if◌then◌else◌}
 use Rattle.std.proofs.lemmas.Bool.{cases_eq, eqb-true, or_from}
-use Rattle.lt_isa.specs.Object.{is_ram, is_eram}
-use Rattle.lt_isa.specs.Machine.{Slot, Unbound, Bound, State, register, slot, bank_blocks, block_at, set_register, set_slot, set_block, slot_words, slot_block}
-use Rattle.symbolic_values.specs.Trees.{Value, SlotAt}
-use Rattle.trace_patterns.specs.Known.{Known, bank_known}
-use Rattle.trace_patterns.specs.SymStates.{Origin, Entry, Loaded, SymSlot, AnySlot, RamSlot, EramSlot, OramSlot, SymState, tree_held, slot_held, hold_tree, hold_slot, entry_slot, at_entry, common_tree, common_slot, common}
-use Rattle.trace_patterns.specs.Rules.{shows_block}
+use Rattle.lt_isa.specs.Prelude.{is_ram, is_eram, Slot, Unbound, Bound, State, register, slot, bank_blocks, block_at, set_register, set_slot, set_block, slot_words, slot_block}
+use Rattle.symbolic_values.specs.Prelude.{Value, SlotAt, value_of}
+use Rattle.trace_patterns.specs.Prelude.{Known, bank_known, Origin, Entry, Loaded, SymSlot, AnySlot, RamSlot, EramSlot, OramSlot, SymState, tree_held, slot_held, hold_tree, hold_slot, entry_slot, at_entry, common_tree, common_slot, common, shows_block}
 use Rattle.trace_patterns.proofs.SymStateLaws.{entry-tree, entry-slot, tree-common, slot-common, common_tree-cases, common_slot-cases}
 use Rattle.lt_checker.proofs.HeldAnew.{no_tree, tree_anew, slot_anew}
-use Rattle.symbolic_values.specs.TreeValues.{value_of}
 
 -- the words of a block of plain memory, by their origin
 abbrev pub origin_words : State → ℕ → Origin → List ℤ

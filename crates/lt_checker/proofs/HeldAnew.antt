@@ -2,8 +2,8 @@
 use Rattle.std.proofs.Common.{◌≡◌, ℕ, ◌<◌, ◌≤◌, length, set, Option, Some, None, sym, ◌∙◌, subst, ⊎_elim, arith, length-set, get_or-set_same}
 use Rattle.std.proofs.lemmas.Bool.{cases_lt}
 use Rattle.std.proofs.lemmas.List.{get_or_past}
-use Rattle.symbolic_values.specs.Trees.{Value}
-use Rattle.trace_patterns.specs.SymStates.{SymSlot, AnySlot, SymState, tree_held, slot_held, hold_tree, hold_slot}
+use Rattle.symbolic_values.specs.Prelude.{Value}
+use Rattle.trace_patterns.specs.Prelude.{SymSlot, AnySlot, SymState, tree_held, slot_held, hold_tree, hold_slot}
 
 -- None isn't a tree
 pub no_tree : {A : Type 0} (t : Value) → ◌≡◌ {A = Option Value} None (Some t) → A

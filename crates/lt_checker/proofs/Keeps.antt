@@ -5,18 +5,12 @@ use Rattle.std.specs.Prelude.{if◌then◌else◌}
 use Rattle.std.proofs.lemmas.Bool.{and_cases, or_parts, or_left, not-false, true≢false, false≢true, eqb-true}
 use Rattle.gr_word.specs.declared.operations.Op.{Op}
 use Rattle.gr_word.specs.declared.operations.Cmp.{Cmp}
-use Rattle.gr_word.specs.Words.{applied, compared}
+use Rattle.gr_word.specs.Prelude.{applied, compared}
 use Rattle.lt_isa.specs.declared.instructions.Instr.{Instr}
 use Rattle.lt_isa.specs.declared.instructions.Instr.TheVariants.{Nop, Halt, Li, Alu, Ldb, Stb, Idb, Ldw, Stw, Jmp, Br}
-use Rattle.lt_isa.specs.Object.{Parts, is_ram, is_eram}
-use Rattle.lt_isa.specs.Ranges.{InstrFits}
-use Rattle.lt_isa.specs.Machine.{Slot, Unbound, Bound, State, Observed, RamRead, RamWrite, EncRead, EncWrite, Oram, register, slot, bank_blocks, block_at, word_in, read_event, write_event}
-use Rattle.lt_isa.specs.Step.{StepResult, Goes, Stops, Faults, target_of, passed, with_bound, block_named, word_named, executed}
+use Rattle.lt_isa.specs.Prelude.{Parts, is_ram, is_eram, InstrFits, Slot, Unbound, Bound, State, Observed, RamRead, RamWrite, EncRead, EncWrite, Oram, register, slot, bank_blocks, block_at, word_in, read_event, write_event, StepResult, Goes, Stops, Faults, target_of, passed, with_bound, block_named, word_named, executed}
 use Rattle.trace_patterns.specs.declared.reasons.Reason.TheVariants.{SecretAddress, SecretToRam}
-use Rattle.trace_patterns.specs.Known.{Known, is_secret, bank_known, set_secret, set_bank}
-use Rattle.trace_patterns.specs.Rules.{Ruling, Falls, Leaves, Opens, shows_block, refused_if, jumped, ruling_of}
-use Rattle.trace_patterns.specs.Visits.{VisitedAt}
-use Rattle.trace_patterns.specs.Accepts.{Accepts}
+use Rattle.trace_patterns.specs.Prelude.{Known, is_secret, bank_known, set_secret, set_bank, Ruling, Falls, Leaves, Opens, shows_block, refused_if, jumped, ruling_of, VisitedAt, Accepts}
 use Rattle.lt_checker.proofs.Related.{Related, BoundAlike, SlotsAlike, passed_alike, register_alike, slot_alike, words_alike, block_alike}
 use Rattle.lt_checker.proofs.Made.{Made, Reached, LandsAt, made_unless, made_bank, made_jump, made_falls}
 use Rattle.lt_checker.proofs.Stands.{Stand, stand_behind, stand_at}

@@ -20,5 +20,4 @@ pub mod Lockstep
 pub mod Starting
 pub mod Soundness
 pub mod Refusals
-pub mod Rulings
 pub mod AcceptanceLaws

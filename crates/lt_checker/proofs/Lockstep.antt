@@ -6,24 +6,12 @@ use Rattle.std.proofs.lemmas.Option.{slice_get-get_or}
 use Rattle.gr_word.specs.declared.operations.Cmp.{Cmp}
 use Rattle.lt_isa.specs.declared.instructions.Instr.{Instr}
 use Rattle.lt_isa.specs.declared.instructions.Instr.TheVariants.{Nop, Halt, Li, Alu, Ldb, Stb, Idb, Ldw, Stw, Jmp, Br}
-use Rattle.lt_isa.specs.Object.{Parts}
-use Rattle.lt_isa.specs.Ranges.{IsInRange}
-use Rattle.lt_isa.specs.Machine.{State, Observed}
-use Rattle.lt_isa.specs.Step.{StepResult, Goes, Stops, Faults, executed, step, step_start}
-use Rattle.lt_isa.specs.Trace.{Stamped, stamped, trace_from, Reaches, Here, Then, NeverFaults}
-use Rattle.lt_isa.specs.Shape.{IsShaped}
+use Rattle.lt_isa.specs.Prelude.{Parts, IsInRange, State, Observed, StepResult, Goes, Stops, Faults, executed, step, step_start, Stamped, stamped, trace_from, Reaches, Here, Then, NeverFaults, IsShaped, target_of}
 use Rattle.lt_isa.proofs.Steps.{step-at, step_start-same, step_start-least, step-later, instruction-fits}
 use Rattle.lt_isa.proofs.Shapes.{step-shaped}
 use Rattle.lt_isa.proofs.Stretches.{reaches-step, reaches-cycle, reaches-shaped, reaches-linear}
 use Rattle.lt_isa.proofs.Lockstep.{Meets, StopsAlike, lockstep_over}
-use Rattle.trace_patterns.specs.Patterns.{Shown}
-use Rattle.trace_patterns.specs.Events.{TreeEvent}
-use Rattle.trace_patterns.specs.Known.{Known, is_secret}
-use Rattle.trace_patterns.specs.SymStates.{SymState, at_entry, known_after}
-use Rattle.trace_patterns.specs.Rules.{Ruling, Falls, Opens, jumped, ruling_of, ruling_if, ruling_at}
-use Rattle.trace_patterns.specs.Visits.{CrossesFrom, VisitedAt, JoinsAt}
-use Rattle.trace_patterns.specs.Accepts.{Accepts}
-use Rattle.lt_isa.specs.Step.{target_of}
+use Rattle.trace_patterns.specs.Prelude.{Shown, TreeEvent, Known, is_secret, SymState, at_entry, known_after, Ruling, Falls, Opens, jumped, ruling_of, ruling_if, ruling_at, CrossesFrom, VisitedAt, JoinsAt, Accepts}
 use Rattle.trace_patterns.proofs.Walks.{crosses-region}
 use Rattle.lt_checker.proofs.Made.{Reached}
 use Rattle.lt_checker.proofs.Stands.{Stand, stand_behind}
@@ -53,17 +41,8 @@ branch_by k cmp ra rb offset true e =
 branch_by k cmp ra rb offset false e = inl e
 
 opens_or_none : (k : Known) (i : Instr) → OpensNone k i ⊎ IsSecretBranch k i
-opens_or_none k Nop = inl tt
-opens_or_none k Halt = inl tt
-opens_or_none k (Li rd value) = inl tt
-opens_or_none k (Alu op rd ra rb) = inl tt
-opens_or_none k (Ldb j b r) = inl tt
-opens_or_none k (Stb j) = inl tt
-opens_or_none k (Idb rd j) = inl tt
-opens_or_none k (Ldw rd j ro) = inl tt
-opens_or_none k (Stw rs j ro) = inl tt
-opens_or_none k (Jmp offset) = inl tt
 opens_or_none k (Br cmp ra rb offset) = branch_by k cmp ra rb offset (is_secret k ra || is_secret k rb) refl
+opens_or_none k other = inl tt
 
 -- the ruling on a branch on a secret opens its region
 opens_region : (o : Parts) (p : ℕ) (offset : ℤ) (k : Known) (cmp : Cmp) (ra rb : ℕ)

@@ -1,13 +1,10 @@
 -- What follows from the ruling on a visited place of an accepted object: no test refuses it.
 use Rattle.std.proofs.Common.{◌≡◌, ℕ, ◌+◌, ◌<◌, Bool, true, false, not, nat_lt, length, Option, Some, None, refl}
 use Rattle.std.proofs.lemmas.Bool.{not-false, ltb-true}
-use Rattle.lt_isa.specs.Object.{Parts}
+use Rattle.lt_isa.specs.Prelude.{Parts}
 use Rattle.trace_patterns.specs.declared.reasons.Reason.{Reason}
 use Rattle.trace_patterns.specs.declared.reasons.Reason.TheVariants.{UnboundSlot, NoNote, NoteTooLow, JumpOutside}
-use Rattle.trace_patterns.specs.Known.{Known, FitsClaim, fits}
-use Rattle.trace_patterns.specs.Rules.{Ruling, Falls, refused_if, at_bank, at_claim, jumped, claimed_at, ruling_at}
-use Rattle.trace_patterns.specs.Visits.{VisitedAt, ComesTo, FallsTo}
-use Rattle.trace_patterns.specs.Accepts.{Accepts}
+use Rattle.trace_patterns.specs.Prelude.{Known, FitsClaim, fits, Ruling, Falls, refused_if, at_bank, at_claim, jumped, claimed_at, ruling_at, VisitedAt, ComesTo, FallsTo, Accepts}
 use Rattle.trace_patterns.proofs.Notes.{fits-claim}
 
 -- a place of the code is reached

@@ -2,18 +2,13 @@
 use Rattle.std.proofs.Common.{◌≡◌, ℕ, ◌<◌, ℤ, pos, List, length, Option, Some, None, refl, sym, ap, ◌∙◌, arith}
 use Rattle.std.proofs.lemmas.Nat.{pow_pos, pow_below}
 use Rattle.gr_word.specs.declared.operations.Op.{Op}
-use Rattle.gr_word.specs.Words.{applied}
+use Rattle.gr_word.specs.Prelude.{applied}
 use Rattle.gr_word.proofs.SmallNumbers.{remu_small}
-use Rattle.lt_isa.specs.Object.{Parts, blocks_of, block_words}
-use Rattle.lt_isa.specs.Ranges.{IsInRange}
-use Rattle.lt_isa.specs.Machine.{Slot, Bound, State, slot, word_in, block_at, slot_words}
-use Rattle.lt_isa.specs.Step.{block_named, word_named}
+use Rattle.lt_isa.specs.Prelude.{Parts, blocks_of, block_words, IsInRange, Slot, Bound, State, slot, word_in, block_at, slot_words, block_named, word_named}
 use Rattle.lt_isa.proofs.Cycles.{blocks-least, blocks-most}
-use Rattle.symbolic_values.specs.Trees.{Value, Apply}
-use Rattle.trace_patterns.specs.SymStates.{Origin, Entry, Loaded, SymSlot, AnySlot, RamSlot, EramSlot, OramSlot}
-use Rattle.trace_patterns.specs.Single.{named_block, named_word, word_tree, applied_trees, block_held, word_held}
+use Rattle.symbolic_values.specs.Prelude.{Value, Apply, as_number, value_of}
+use Rattle.trace_patterns.specs.Prelude.{Origin, Entry, Loaded, SymSlot, AnySlot, RamSlot, EramSlot, OramSlot, named_block, named_word, word_tree, applied_trees, block_held, word_held}
 use Rattle.lt_checker.proofs.HeldAnew.{no_tree}
-use Rattle.symbolic_values.specs.TreeValues.{as_number, value_of}
 use Rattle.lt_checker.proofs.Singles.{IsKnown, IsHidden}
 use Rattle.lt_checker.proofs.Described.{origin_words, Holds}
 

@@ -6,8 +6,8 @@ use Rattle.std.proofs.lemmas.List.Elements.{All-head, All-tail}
 use Rattle.std.proofs.lemmas.Bool.{cases_eq, eq-eqb, ne_eqb, cond-true, cond-false}
 use Rattle.std.proofs.lemmas.Option.{slice_get-get_or}
 use Rattle.lt_isa.specs.declared.symbols.Note.{Note}
-use Rattle.trace_patterns.specs.Rules.{note_of_place}
-use Rattle.lt_checker.specs.Tables.{IsEntry}
+use Rattle.trace_patterns.specs.Prelude.{note_of_place}
+use Rattle.lt_checker.specs.Prelude.{IsEntry}
 
 -- an entry depends only on the note that is found
 entry_as : (all some more : List Note) (p : ℕ) (e : Option ℕ) → note_of_place more p ≡ note_of_place some p

@@ -1,16 +1,11 @@
 -- The events and the cycles of patterns, in a run that entered a region in a given state.
 use Rattle.std.proofs.Common.{◌≡◌, ℕ, ◌+◌, ◌≤◌, List, [], ◌∷◌, ◌++◌, refl, sym, ap, ◌∙◌, arith, add_assoc}
 use Rattle.std.proofs.lemmas.List.{append-nil}
-use Rattle.lt_isa.specs.Object.{Parts, latency_of}
-use Rattle.lt_isa.specs.Machine.{State, Observed, block_at}
-use Rattle.lt_isa.specs.Machine as seen
-use Rattle.lt_isa.specs.Windows.{access_start}
-use Rattle.lt_isa.specs.Trace.{Stamped, seen_at}
+use Rattle.lt_isa.specs.Prelude.{Parts, latency_of, State, Observed, block_at, access_start, Stamped, seen_at}
 use Rattle.lt_isa.proofs.Windows.{access_start-least}
-use Rattle.symbolic_values.specs.TreeValues.{as_number, value_of}
-use Rattle.trace_patterns.specs.Patterns.{Shown, with_gap, joined, joined_parts}
-use Rattle.trace_patterns.specs.Events.{TreeEvent, RamRead, EncRead, EncWrite, Oram}
-use Rattle.trace_patterns.specs.Single.{gap}
+use Rattle.symbolic_values.specs.Prelude.{as_number, value_of}
+use Rattle.trace_patterns.specs.Prelude.{Shown, joined, joined_parts, TreeEvent, RamRead, EncRead, EncWrite, Oram, gap}
+use Rattle.lt_isa.specs.Machine as seen
 
 -- what an event shows
 abbrev pub shown_by : State → TreeEvent → Observed
@@ -112,7 +107,3 @@ ends-least o cycle p = omega (arith, behind-least o cycle p.parts)
 -- cycles without an event
 pub ends-gap : (o : Parts) (cycle n : ℕ) → ends o cycle (gap n) ≡ cycle + n
 ends-gap o cycle n = omega arith
-
-pub ends-with_gap : (o : Parts) (cycle : ℕ) (p : Shown TreeEvent) (n : ℕ)
-    → ends o cycle (with_gap p n) ≡ ends o cycle p + n
-ends-with_gap o cycle p n = omega arith

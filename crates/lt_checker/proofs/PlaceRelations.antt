@@ -2,24 +2,17 @@
 use Rattle.std.proofs.Common.{◌≡◌, ℕ, zero, suc, ◌+◌, ◌-◌, ◌<◌, ◌≤◌, ◌==◌, Bool, true, false, ℤ, length, ◌⊎◌, inl, inr, Option, Some, None, Result, Ok, Err, refl, sym, ap, ◌∙◌, subst, arith, add-one}
 use Rattle.std.specs.Prelude.{if◌then◌else◌}
 use Rattle.std.proofs.lemmas.Bool.{eqb-true, eqb-false, ne_eqb}
-use Rattle.lt_isa.specs.Object.{Parts}
+use Rattle.lt_isa.specs.Prelude.{Parts}
 use Rattle.trace_patterns.specs.declared.reasons.Reason.{Reason}
 use Rattle.trace_patterns.specs.declared.reasons.Reason.TheVariants.{NoteTooLow, RunsOffEnd}
-use Rattle.trace_patterns.specs.Patterns.{Shown}
-use Rattle.trace_patterns.specs.Events.{TreeEvent}
-use Rattle.trace_patterns.specs.Known.{Known, fits}
-use Rattle.trace_patterns.specs.SymStates.{SymState, at_entry, known_after}
-use Rattle.trace_patterns.specs.Walk.{BlockedAt}
-use Rattle.trace_patterns.specs.Rules as rule
-use Rattle.trace_patterns.specs.Rules.{Ruling, claimed_at, ruling_at}
-use Rattle.trace_patterns.specs.Visits.{CrossesFrom, VisitedAt, Noted, Unnoted, ComesTo, Starts, FallsTo, JoinsAt, LiesInside}
+use Rattle.trace_patterns.specs.Prelude.{Shown, TreeEvent, Known, fits, SymState, at_entry, known_after, BlockedAt, Ruling, claimed_at, ruling_at, CrossesFrom, VisitedAt, Noted, Unnoted, ComesTo, Starts, FallsTo, JoinsAt, LiesInside}
 use Rattle.trace_patterns.proofs.Walks.{crosses-region}
 use Rattle.trace_patterns.proofs.Notes.{claimed_at-inside}
-use Rattle.region_walk.specs.FuelWalk.{Crossing, Crosses, Blocked}
-use Rattle.region_walk.specs.Crossings.{IsCrossed}
+use Rattle.region_walk.specs.Prelude.{Crossing, Crosses, Blocked, IsCrossed}
 use Rattle.region_walk.proofs.WalkRelations.{CrossingIs, crossing-is, crosses-crossing, blocked-crossing}
-use Rattle.lt_checker.specs.ByPlace.{Effect, Refused, Falls, Leaves, Joins, Stuck, joined_at, crossing_at, effect_of, effect_at, entered, on_entry, Arrival, Unreached, Here, Inside, effect_from, arrival_at, reached_at, refusal_in, refusal_at, NoneBelow}
+use Rattle.lt_checker.specs.Prelude.{Effect, Refused, Falls, Leaves, Joins, Stuck, joined_at, crossing_at, effect_of, effect_at, entered, on_entry, Arrival, Unreached, Here, Inside, effect_from, arrival_at, reached_at, refusal_in, refusal_at, NoneBelow}
 use Rattle.lt_checker.proofs.Reached.{reached_at-zero, reached_at-next, reached-inside, reached-join}
+use Rattle.trace_patterns.specs.Rules as rule
 
 -- the place opens a region that is crossed, with this join and this known there
 pub record Crossed (o : Parts) (p : ℕ) (k : Known) (join : ℕ) (after : Known) : Type 0 where
@@ -125,12 +118,10 @@ module _ (o : Parts) where
   -- how the next place is reached from a visited one
   next_is : (p : ℕ) (k : Known) (e : Effect) → VisitedAt o p k → EffectIs o p k e
       → ArrivalIs o (p + 1) (arrival_at (p + 1) e)
-  next_is p k (Refused reason) visited h = tt
   next_is p k (Falls next) visited h = FallsTo p k next visited h.0
-  next_is p k Leaves visited h = tt
   next_is p k (Joins join after) visited h =
       arrives_if p k (p + 1) join after (p + 1 == join) visited h (omega arith) (omega (arith, h.behind)) refl
-  next_is p k (Stuck place reason) visited h = tt
+  next_is p k other visited h = tt
 
   entered_is : (p : ℕ) (known : Result Known Reason) → ((k : Known) → known ≡ Ok k → VisitedAt o p k)
       → ArrivalIs o (p + 1) (arrival_at (p + 1) (on_entry known (effect_at o p)))

@@ -2,9 +2,9 @@
 use Rattle.std.proofs.Common.{◌≡◌, ℕ, zero, suc, ◌+◌, ◌-◌, ◌<◌, ◌≤◌, Bool, refl, ap, ◌∙◌, subst, arith, add-one}
 use Rattle.std.specs.Prelude.{if◌then◌else◌}
 use Rattle.std.proofs.lemmas.Bool.{eq-eqb, ne_eqb}
-use Rattle.lt_isa.specs.Object.{Parts}
-use Rattle.trace_patterns.specs.Known.{Known, start_known}
-use Rattle.lt_checker.specs.ByPlace.{Joins, Arrival, Here, Inside, arrival_at, effect_from, reached_at}
+use Rattle.lt_isa.specs.Prelude.{Parts}
+use Rattle.trace_patterns.specs.Prelude.{Known, start_known}
+use Rattle.lt_checker.specs.Prelude.{Joins, Arrival, Here, Inside, arrival_at, effect_from, reached_at}
 
 -- the first place is reached with what is known at the start
 pub reached_at-zero : (o : Parts) → reached_at o 0 ≡ Here start_known

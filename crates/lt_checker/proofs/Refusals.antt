@@ -4,20 +4,16 @@ use Rattle.std.proofs.Common.{◌≡◌, ℕ, zero, suc, ◌+◌, ◌-◌, ◌<�
 use Rattle.std.specs.Prelude.{if◌then◌else◌}
 use Rattle.std.proofs.lemmas.Option.{slice_get_past}
 use Rattle.std.proofs.lemmas.Bool.{cases_lt, eq-eqb, false_from_ne_true, true≢false}
-use Rattle.lt_isa.specs.Object.{Parts}
+use Rattle.lt_isa.specs.Prelude.{Parts}
 use Rattle.trace_patterns.specs.declared.reasons.Reason.{Reason}
 use Rattle.trace_patterns.specs.declared.reasons.Reason.TheVariants.{NoNote, NoteTooLow, RunsOffEnd, SecretSymbolInRam}
-use Rattle.trace_patterns.specs.Known.{Known, fits, FitsClaim}
-use Rattle.trace_patterns.specs.SymStates.{at_entry}
-use Rattle.trace_patterns.specs.Rules as rule
-use Rattle.trace_patterns.specs.Rules.{Ruling, claimed_at, ruling_at}
-use Rattle.trace_patterns.specs.Visits.{VisitedAt, Noted, Unnoted, ComesTo, IsVisited, LiesInside, FitsNote}
-use Rattle.trace_patterns.specs.Accepts.{Accepts, RegionIsCrossed, RefusedAt, Missed, Unfit, ByRule, OffEnd, InRegion, IsLowestRefusal, FirstRefusal, has_secret_in_ram}
+use Rattle.trace_patterns.specs.Prelude.{Known, fits, FitsClaim, at_entry, Ruling, claimed_at, ruling_at, VisitedAt, Noted, Unnoted, ComesTo, IsVisited, LiesInside, FitsNote, Accepts, RegionIsCrossed, RefusedAt, Missed, Unfit, ByRule, OffEnd, InRegion, IsLowestRefusal, FirstRefusal, has_secret_in_ram}
 use Rattle.trace_patterns.proofs.Notes.{fits-claim}
-use Rattle.region_walk.specs.FuelWalk.{Crossing, Crosses, Blocked}
+use Rattle.region_walk.specs.Prelude.{Crossing, Crosses, Blocked}
 use Rattle.region_walk.proofs.WalkRelations.{CrossingIs, crossing-is, crosses-crossing, blocked-crossing}
-use Rattle.lt_checker.specs.ByPlace.{Effect, Refused, Falls, Leaves, Joins, Stuck, joined_at, crossing_at, effect_of, effect_at, entered, on_entry, Arrival, Unreached, Here, Inside, effect_from, reached_at, refusal_in, refusal_at, NoneBelow, IsFirstFound}
+use Rattle.lt_checker.specs.Prelude.{Effect, Refused, Falls, Leaves, Joins, Stuck, joined_at, crossing_at, effect_of, effect_at, entered, on_entry, Arrival, Unreached, Here, Inside, effect_from, reached_at, refusal_in, refusal_at, NoneBelow, IsFirstFound}
 use Rattle.lt_checker.proofs.PlaceRelations.{EffectIs, effect-is, effect-ruled, here-comes, inside-lies, lies-inside, FitsHere, no_refusal, fits-here, comes-here, visited-known, lies-reached}
+use Rattle.trace_patterns.specs.Rules as rule
 
 -- if what reaches a place fits its note in the relations, it passes the test
 pub fits_tested : (o : Parts) (p : ℕ) → FitsNote o p → FitsHere o p
@@ -108,10 +104,8 @@ module _ (o : Parts) (p : ℕ) (none : NoneBelow o p) (inside : p < length o.cod
   effect_refusal : (k : Known) (e : Effect) → FitsNote o p → VisitedAt o p k → EffectIs o p k e
       → RefusalIs (refusal_in p e)
   effect_refusal k (Refused reason) fitting visited h = by_ruling k reason fitting visited h
-  effect_refusal k (Falls next) fitting visited h = tt
-  effect_refusal k Leaves fitting visited h = tt
-  effect_refusal k (Joins join after) fitting visited h = tt
   effect_refusal k (Stuck place reason) fitting visited h = InRegion p k h.0 place reason fitting visited h.1 h.2
+  effect_refusal k other fitting visited h = tt
 
   at_known : (k : Known) → FitsNote o p → VisitedAt o p k → RefusalIs (refusal_in p (effect_at o p k))
   at_known k fitting visited = effect_refusal k (effect_at o p k) fitting visited (effect-is o p k)

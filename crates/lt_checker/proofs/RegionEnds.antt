@@ -2,16 +2,11 @@
 use Rattle.std.proofs.Common.{◌≡◌, ℕ, ◌<◌, Bool, true, false, ◌||◌, ℤ, pos, List, [], get_or, Option, Some, None, refl, sym, ap, ◌∙◌, subst, ⊎_elim}
 use Rattle.std.specs.Prelude.{if◌then◌else◌, is_none}
 use Rattle.std.proofs.lemmas.Bool.{or_left, true≢false, false≢true}
-use Rattle.lt_isa.specs.Object.{Parts, is_ram, is_eram}
-use Rattle.lt_isa.specs.Machine.{Slot, Unbound, Bound, State, slot, bank_blocks, block_at, slot_words, slot_block}
-use Rattle.lt_isa.specs.Shape.{IsShaped}
-use Rattle.symbolic_values.specs.Trees.{Value, SlotAt}
-use Rattle.trace_patterns.specs.Known.{Known, bank_known}
-use Rattle.trace_patterns.specs.SymStates.{Origin, Entry, Loaded, SymSlot, AnySlot, RamSlot, EramSlot, OramSlot, SymState, tree_held, slot_held, entry_slot, at_entry, slot_bank, known_after}
-use Rattle.trace_patterns.specs.Rules.{shows_block}
+use Rattle.lt_isa.specs.Prelude.{Parts, is_ram, is_eram, Slot, Unbound, Bound, State, slot, bank_blocks, block_at, slot_words, slot_block, IsShaped}
+use Rattle.symbolic_values.specs.Prelude.{Value, SlotAt, as_number, value_of}
+use Rattle.trace_patterns.specs.Prelude.{Known, bank_known, Origin, Entry, Loaded, SymSlot, AnySlot, RamSlot, EramSlot, OramSlot, SymState, tree_held, slot_held, entry_slot, at_entry, slot_bank, known_after, shows_block}
 use Rattle.trace_patterns.proofs.SymStateLaws.{entry-tree, entry-slot, secret-after, bank-after}
 use Rattle.lt_checker.proofs.Related.{Related, BoundAlike, SlotsAlike}
-use Rattle.symbolic_values.specs.TreeValues.{as_number, value_of}
 use Rattle.lt_checker.proofs.Described.{IsBoundTo, origin_words, Holds, Describes, describes_entry}
 use Rattle.lt_checker.proofs.ArmsAgree.{TreeAgrees, OriginAgrees, SlotAgrees, Agrees}
 

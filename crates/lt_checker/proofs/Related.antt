@@ -4,12 +4,8 @@ use Rattle.std.proofs.Common.{◌≡◌, ℕ, ◌+◌, ◌<◌, ◌≤◌, Bool,
 use Rattle.std.proofs.lemmas.List.{get_or_past, set-get_or}
 use Rattle.std.proofs.lemmas.Bool.{cases_eq, cases_lt, true≢false, eq-eqb, or_left}
 use Rattle.lt_isa.specs.declared.instructions.Instr.{Instr}
-use Rattle.lt_isa.specs.Object.{Parts, is_ram}
-use Rattle.lt_isa.specs.Machine.{Slot, Unbound, Bound, State, register, slot, bank_blocks, set_register, set_slot, set_block}
-use Rattle.lt_isa.specs.Costs.{cost_of}
-use Rattle.lt_isa.specs.Step.{start_of, passed}
-use Rattle.trace_patterns.specs.Known.{Known, is_secret, bank_known, set_secret, set_bank}
-use Rattle.trace_patterns.specs.Rules.{shows_block}
+use Rattle.lt_isa.specs.Prelude.{Parts, is_ram, Slot, Unbound, Bound, State, register, slot, bank_blocks, set_register, set_slot, set_block, cost_of, start_of, passed}
+use Rattle.trace_patterns.specs.Prelude.{Known, is_secret, bank_known, set_secret, set_bank, shows_block}
 
 -- how two slots bound to bank b are alike: in plain memory in the block and its words, in encrypted memory in the
 -- block, and in an oblivious bank in nothing more

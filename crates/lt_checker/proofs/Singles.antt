@@ -1,11 +1,8 @@
 -- What holds for an instruction of an arm if it continues.
 use Rattle.std.proofs.Common.{◌≡◌, ℕ, Bool, true, false, Option, Some, None, refl, subst}
 use Rattle.std.specs.Prelude.{if◌then◌else◌}
-use Rattle.symbolic_values.specs.Trees.{Value}
-use Rattle.trace_patterns.specs.Patterns.{Shown}
-use Rattle.trace_patterns.specs.Events.{TreeEvent, EncWrite, Oram}
-use Rattle.trace_patterns.specs.SymStates.{SymSlot, AnySlot, RamSlot, EramSlot, OramSlot, SymState}
-use Rattle.trace_patterns.specs.Single.{Single, Refuses, Goes, Branches, event, at_tree, stores, if_bound, if_stored}
+use Rattle.symbolic_values.specs.Prelude.{Value}
+use Rattle.trace_patterns.specs.Prelude.{Shown, TreeEvent, EncWrite, Oram, SymSlot, AnySlot, RamSlot, EramSlot, OramSlot, SymState, Single, Refuses, Goes, Branches, event, at_tree, stores, if_bound, if_stored}
 
 -- a property of what an instruction shows and leaves, if it continues
 abbrev pub OnSingle : (Shown TreeEvent → SymState → Type 0) → Single → Type 0
@@ -21,9 +18,7 @@ on_single P made pattern state h e = subst (OnSingle P) e h
 -- a slot about which something is known
 abbrev pub IsKnown : SymSlot → Type 0
 IsKnown AnySlot = ⊥
-IsKnown (RamSlot block origin) = Unit {0}
-IsKnown (EramSlot block) = Unit {0}
-IsKnown (OramSlot bank) = Unit {0}
+IsKnown other = Unit {0}
 
 -- a slot whose block an arm may store
 abbrev pub IsHidden : SymSlot → Type 0
@@ -48,9 +43,7 @@ module _ (P : Shown TreeEvent → SymState → Type 0) where
   -- with a slot that must be bound
   pub on_bound : (bound : SymSlot) (go : Single) → (IsKnown bound → OnSingle P go) → OnSingle P (if_bound bound go)
   on_bound AnySlot go h = tt
-  on_bound (RamSlot block origin) go h = h tt
-  on_bound (EramSlot block) go h = h tt
-  on_bound (OramSlot bank) go h = h tt
+  on_bound other go h = h tt
 
   -- with a slot whose words are stored
   pub on_stored : (bound : SymSlot) (go : Single) → (IsHidden bound → OnSingle P go) → OnSingle P (if_stored bound go)

@@ -1,10 +1,7 @@
 -- An accepted object is oblivious.
-use Rattle.lt_isa.specs.Object.{Parts}
-use Rattle.lt_isa.specs.Ranges.{IsInRange}
-use Rattle.lt_isa.specs.Start.{start_state}
-use Rattle.lt_isa.specs.Oblivious.{IsOblivious}
+use Rattle.lt_isa.specs.Prelude.{Parts, IsInRange, start_state, IsOblivious}
 use Rattle.lt_isa.proofs.Starts.{IsShaped-start}
-use Rattle.trace_patterns.specs.Accepts.{Accepts}
+use Rattle.trace_patterns.specs.Prelude.{Accepts}
 use Rattle.lt_checker.proofs.Lockstep.{traces_alike, never_faults}
 use Rattle.lt_checker.proofs.Starting.{starts_alike, agree_first, agree_second}
 

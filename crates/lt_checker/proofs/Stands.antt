@@ -1,11 +1,7 @@
 -- Two runs of an accepted object are at one visited place, related by what is known there.
 use Rattle.std.proofs.Common.{◌≡◌, ◌<◌, length, Option, Some, None, refl}
-use Rattle.lt_isa.specs.Object.{Parts}
-use Rattle.lt_isa.specs.Machine.{State}
-use Rattle.trace_patterns.specs.Known.{Known}
-use Rattle.trace_patterns.specs.Rules.{claimed_at}
-use Rattle.trace_patterns.specs.Visits.{VisitedAt, Noted, Unnoted}
-use Rattle.trace_patterns.specs.Accepts.{Accepts}
+use Rattle.lt_isa.specs.Prelude.{Parts, State}
+use Rattle.trace_patterns.specs.Prelude.{Known, claimed_at, VisitedAt, Noted, Unnoted, Accepts}
 use Rattle.lt_checker.proofs.Related.{Related}
 use Rattle.lt_checker.proofs.Weaker.{weaker}
 use Rattle.lt_checker.proofs.Made.{LandsAt, Reached}

@@ -6,13 +6,9 @@ use Rattle.std.proofs.lemmas.List.Folds.{list_any_at}
 use Rattle.gr_word.specs.declared.variables.Label.{Label}
 use Rattle.gr_word.specs.declared.variables.Label.TheVariants.{Public, Secret}
 use Rattle.lt_isa.specs.declared.symbols.Symbol.{Symbol}
-use Rattle.lt_isa.specs.Object.{Parts, is_ram}
-use Rattle.lt_isa.specs.Ranges.{IsInRange}
-use Rattle.lt_isa.specs.Start.{start_state, AgreeOn, Agree}
+use Rattle.lt_isa.specs.Prelude.{Parts, is_ram, IsInRange, start_state, AgreeOn, Agree}
 use Rattle.lt_isa.proofs.Starts.{register-start, place-start, cycle-start, bank-start, start_bank-same, IsShaped-start}
-use Rattle.trace_patterns.specs.Known.{start_known}
-use Rattle.trace_patterns.specs.Visits.{Starts}
-use Rattle.trace_patterns.specs.Accepts.{is_secret_label, has_secret_in_ram, Accepts}
+use Rattle.trace_patterns.specs.Prelude.{start_known, Starts, is_secret_label, has_secret_in_ram, Accepts}
 use Rattle.region_walk.proofs.EntryStates.{start-bank}
 use Rattle.lt_checker.proofs.Related.{Related}
 use Rattle.lt_checker.proofs.Made.{Reached}

@@ -1,8 +1,8 @@
 -- Runs that are related by what is known are related by each claim that it fits.
 use Rattle.std.proofs.Common.{sym, ◌∙◌}
 use Rattle.std.proofs.lemmas.Bool.{true≢false, false_from_ne_true}
-use Rattle.lt_isa.specs.Machine.{State}
-use Rattle.trace_patterns.specs.Known.{Known, is_secret, FitsClaim}
+use Rattle.lt_isa.specs.Prelude.{State}
+use Rattle.trace_patterns.specs.Prelude.{Known, is_secret, FitsClaim}
 use Rattle.lt_checker.proofs.Related.{Related}
 
 -- runs that are related by what is known are related by a claim that it fits

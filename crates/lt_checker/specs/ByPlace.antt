@@ -7,9 +7,9 @@ use Rattle.trace_patterns.specs.declared.reasons.Reason.{Reason}
 use Rattle.trace_patterns.specs.declared.reasons.Reason.TheVariants.{NoNote, NoteTooLow, RunsOffEnd}
 use Rattle.trace_patterns.specs.Known.{Known, start_known, fits}
 use Rattle.trace_patterns.specs.SymStates.{at_entry, known_after}
-use Rattle.trace_patterns.specs.Rules as rule
 use Rattle.trace_patterns.specs.Rules.{Ruling, claimed_at, ruling_at}
 use Rattle.region_walk.specs.FuelWalk.{Crossing, Crosses, Blocked, crossing, walk}
+use Rattle.trace_patterns.specs.Rules as rule
 
 -- A place is refused; or it falls through to the next place; or it doesn't; or it opens a region that is crossed, and
 -- the next place that is reached is the join; or it opens a region that is refused at one of its places.
@@ -73,11 +73,9 @@ effect_from o p arrival = visited arrival (λ reached. on_entry (entered (claime
 
 -- how a place is reached, from the result for the place before it
 abbrev pub arrival_at : ℕ → Effect → Arrival
-arrival_at p (Refused reason) = Unreached
 arrival_at p (Falls k) = Here k
-arrival_at p Leaves = Unreached
 arrival_at p (Joins join k) = if p == join then Here k else Inside join k
-arrival_at p (Stuck place reason) = Unreached
+arrival_at p other = Unreached
 
 unfoldable pub reached_at : Parts → ℕ → Arrival
 reached_at o zero = Here start_known
@@ -87,10 +85,8 @@ reached_at o (suc p) = arrival_at (suc p) (effect_from o p (reached_at o p))
 -- opens
 abbrev pub refusal_in : ℕ → Effect → Option (ℕ × Reason)
 refusal_in p (Refused reason) = Some (p, reason)
-refusal_in p (Falls k) = None
-refusal_in p Leaves = None
-refusal_in p (Joins join k) = None
 refusal_in p (Stuck place reason) = Some (place, reason)
+refusal_in p other = None
 
 abbrev pub refusal_at : Parts → ℕ → Option (ℕ × Reason)
 refusal_at o p = refusal_in p (effect_from o p (reached_at o p))

@@ -4,17 +4,17 @@ use Rattle.std.specs.Prelude.{ℕ}
 use Rattle.lt_isa.specs.Ranges.{IsOffset}
 use Rattle.trace_patterns.specs.declared.reasons.Reason.{Reason}
 use Rattle.trace_patterns.specs.Known.{Known}
-use Rattle.trace_patterns.specs.Rules as rule
-use Rattle.lt_checker.specs.ByPlace as place
 use Rattle.lt_checker.specs.declared.rules.Ruling.{Ruling}
-use Rattle.lt_checker.specs.declared.rules.Ruling.TheVariants as told
 use Rattle.lt_checker.specs.declared.effects.Refusal.{Refusal}
 use Rattle.lt_checker.specs.declared.effects.Entry.{Entry}
-use Rattle.lt_checker.specs.declared.effects.Entry.TheVariants as entry
 use Rattle.lt_checker.specs.declared.effects.Effect.{Effect}
 use Rattle.lt_checker.specs.declared.effects.Effect.TheVariants.{Refused, Falls, Leaves, Joins, Stuck}
 use Rattle.lt_checker.specs.declared.effects.Arrival.{Arrival}
 use Rattle.lt_checker.specs.declared.effects.Arrival.TheVariants.{Unreached, Here, Inside}
+use Rattle.trace_patterns.specs.Rules as rule
+use Rattle.lt_checker.specs.ByPlace as place
+use Rattle.lt_checker.specs.declared.rules.Ruling.TheVariants as told
+use Rattle.lt_checker.specs.declared.effects.Entry.TheVariants as entry
 
 -- the ruling on an instruction after which this is known
 abbrev pub ruled : Ruling → Known → rule.Ruling
@@ -25,17 +25,13 @@ ruled (told.Opens offset) k = rule.Opens offset
 
 -- a claim about a branch on a secret
 abbrev pub WhereItOpens : Ruling → Type 0 → Type 0
-WhereItOpens (told.Refused reason) claim = Unit {0}
-WhereItOpens told.Falls claim = Unit {0}
-WhereItOpens told.Leaves claim = Unit {0}
 WhereItOpens (told.Opens offset) claim = claim
+WhereItOpens other claim = Unit {0}
 
 -- the offset of a ruling that opens a region is an instruction's offset
 abbrev pub OffsetFits : rule.Ruling → Type 0
-OffsetFits (rule.Refused reason) = Unit {0}
-OffsetFits (rule.Falls k) = Unit {0}
-OffsetFits rule.Leaves = Unit {0}
 OffsetFits (rule.Opens offset) = IsOffset offset
+OffsetFits other = Unit {0}
 
 -- the result for a place that was entered, from the result for a visited place at which this is known
 abbrev pub on_entered : Entry → Known → (Known → place.Effect) → place.Effect

@@ -1,9 +1,7 @@
 ghost use Rattle.std.specs.Prelude.{◌≡◌, ◌<◌, ◌&&◌, OnOk, IfOk, IfErr, IfSome, IfNone};
 ghost use Rattle.std.specs.List.{list_any};
-ghost use Rattle.lt_isa.specs.Object.{is_ram};
-ghost use Rattle.lt_isa.specs.Ranges.{IsInRange};
-ghost use Rattle.lt_isa.specs.Oblivious.{IsOblivious};
-ghost use Rattle.trace_patterns.specs.Accepts.{Accepts, FirstRefusal, is_secret_label};
+ghost use Rattle.lt_isa.specs.Prelude.{is_ram, IsInRange, IsOblivious};
+ghost use Rattle.trace_patterns.specs.Prelude.{Accepts, FirstRefusal, is_secret_label};
 ghost use Rattle.lt_checker.specs.Answers.{IsRefusalOf, HandsBack};
 
 use crate::effects::Refusal;

@@ -1,5 +1,5 @@
 ghost use Rattle.std.specs.Prelude.{◌≡◌, option_map};
-ghost use Rattle.trace_patterns.specs.Known.{Known};
+ghost use Rattle.trace_patterns.specs.Prelude.{Known};
 ghost use Rattle.lt_checker.specs.ByPlace.{arrival_at, refusal_in};
 ghost use Rattle.lt_checker.specs.Effects.{made, arrived, refused};
 

@@ -1,11 +1,7 @@
 ghost use Rattle.std.specs.Prelude.{◌≡◌, ◌↔◌, ◌⊎◌, ◌<◌, ℕ, length, true, Some};
-ghost use Rattle.lt_isa.specs.Object.{Parts};
+ghost use Rattle.lt_isa.specs.Prelude.{Parts};
 ghost use Rattle.trace_patterns.specs.declared.reasons.Reason.{Reason as Why};
-ghost use Rattle.trace_patterns.specs.Known.{Known, FitsClaim, fits};
-ghost use Rattle.trace_patterns.specs.SymStates.{SymState, IsJoin, common};
-ghost use Rattle.trace_patterns.specs.Rules.{claimed_at};
-ghost use Rattle.trace_patterns.specs.Visits.{VisitedAt};
-ghost use Rattle.trace_patterns.specs.Accepts.{Accepts, FirstRefusal};
+ghost use Rattle.trace_patterns.specs.Prelude.{Known, FitsClaim, fits, SymState, IsJoin, common, claimed_at, VisitedAt, Accepts, FirstRefusal};
 
 /// Does nothing; its clauses are the laws of acceptance. Each object is either accepted or has a first refusal, and it
 /// has at most one first refusal. What is known at a visited place of an accepted object is unique. What is known fits

@@ -1,11 +1,11 @@
 ghost use Rattle.std.specs.Prelude.{◌≡◌, ◌<◌, length, All, Some, None, if◌then◌else◌, IfOk, IfSome, IfNone};
-ghost use Rattle.lt_isa.specs.Ranges.{IsOffset};
+ghost use Rattle.lt_isa.specs.Prelude.{IsOffset};
 ghost use Rattle.trace_patterns.specs.Known.{Known as Labels};
-ghost use Rattle.trace_patterns.specs.Rules as rule;
-ghost use Rattle.trace_patterns.specs.Rules.{claimed_at, ruling_at};
+ghost use Rattle.trace_patterns.specs.Prelude.{claimed_at, ruling_at};
 ghost use Rattle.lt_checker.specs.ByPlace.{Effect as OneEffect, entered, on_entry, visited, falls_to, effect_of, effect_at, effect_from, NoneBelow, IsFirstFound};
 ghost use Rattle.lt_checker.specs.Effects.{ruled, on_entered, made, arrived, OffsetFits, WhereItOpens};
 ghost use Rattle.lt_checker.specs.Tables.{IsTableOf};
+ghost use Rattle.trace_patterns.specs.Rules as rule;
 
 use crate::effects::{Arrival, Effect, Entry, Refusal};
 use crate::rules::{Ruling, claimed_at, rule_of};

@@ -1,11 +1,9 @@
 ghost use Rattle.std.specs.Prelude.{◌≡◌, ◌<◌, ◌||◌, ◌&&◌, length, All, not, if◌then◌else◌};
-ghost use Rattle.lt_isa.specs.Object.{is_ram};
-ghost use Rattle.lt_isa.specs.Ranges.{InstrFits};
-ghost use Rattle.trace_patterns.specs.Known.{is_secret, bank_known, set_secret, set_bank};
-ghost use Rattle.trace_patterns.specs.Rules as rule;
-ghost use Rattle.trace_patterns.specs.Rules.{shows_block, claimed_at, ruling_of, jumped, at_bank, refused_if};
+ghost use Rattle.lt_isa.specs.Prelude.{is_ram, InstrFits};
+ghost use Rattle.trace_patterns.specs.Prelude.{is_secret, bank_known, set_secret, set_bank, shows_block, claimed_at, ruling_of, jumped, at_bank, refused_if};
 ghost use Rattle.lt_checker.specs.Effects.{ruled, WhereItOpens};
 ghost use Rattle.lt_checker.specs.Tables.{IsTableOf};
+ghost use Rattle.trace_patterns.specs.Rules as rule;
 
 use crate::tables;
 use lt_isa::instruction_table::target_of;

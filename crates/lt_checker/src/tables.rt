@@ -1,6 +1,5 @@
 ghost use Rattle.std.specs.Prelude.{◌≡◌, ◌<◌, ◌^◌, length, All, IfOk, vec_len, option_map};
-ghost use Rattle.trace_patterns.specs.Known.{note_known};
-ghost use Rattle.trace_patterns.specs.Rules.{note_of_place};
+ghost use Rattle.trace_patterns.specs.Prelude.{note_known, note_of_place};
 ghost use Rattle.lt_checker.specs.Tables.{IsEntry, IsTableOf};
 
 use lt_isa::Note;

@@ -7,9 +7,7 @@ use Rattle.lt_isa.specs.declared.profiles.Profile.{Profile}
 use Rattle.lt_isa.specs.declared.profiles.BankSpec.{BankSpec}
 use Rattle.lt_isa.specs.declared.instructions.Instr.{Instr}
 use Rattle.lt_isa.specs.declared.instructions.Instr.TheVariants.{Nop, Halt, Li, Alu, Ldb, Stb, Idb, Ldw, Stw, Jmp, Br}
-use Rattle.lt_isa.specs.Object.{Parts, no_bank, latency_of, blocks_of}
-use Rattle.lt_isa.specs.Ranges.{IsInRange, ProfileFits, BankFits}
-use Rattle.lt_isa.specs.Costs.{cost_of, operation_cost}
+use Rattle.lt_isa.specs.Prelude.{Parts, no_bank, latency_of, blocks_of, IsInRange, ProfileFits, BankFits, cost_of, operation_cost}
 use Rattle.gr_base.proofs.EachAfter.{EachAfter-at}
 
 -- each bank of the object is in its ranges
@@ -33,33 +31,24 @@ blocks-most o fits b exists = within (nat_lt (length (take b o.banks)) 2) _ (ban
     within false n le = omega arith
 
 operation_cost-least : (p : Profile) → ProfileFits p → (op : Op) → 1 ≤ operation_cost p op
-operation_cost-least p fits Add = fits.alu.0
-operation_cost-least p fits Sub = fits.alu.0
 operation_cost-least p fits Mul = fits.mul.0
 operation_cost-least p fits Div = fits.mul.0
 operation_cost-least p fits Rem = fits.mul.0
 operation_cost-least p fits Remu = fits.mul.0
-operation_cost-least p fits And = fits.alu.0
-operation_cost-least p fits Or = fits.alu.0
-operation_cost-least p fits Xor = fits.alu.0
-operation_cost-least p fits Shl = fits.alu.0
-operation_cost-least p fits Shr = fits.alu.0
+operation_cost-least p fits other = fits.alu.0
 
 -- an instruction takes at least one cycle
 pub cost-least : (o : Parts) → IsInRange o → (i : Instr) (taken : Bool) (bank : ℕ) → bank < length o.banks
     → 1 ≤ cost_of o i taken bank
-cost-least o fits Nop taken bank exists = omega arith
-cost-least o fits Halt taken bank exists = omega arith
-cost-least o fits (Li rd value) taken bank exists = omega arith
 cost-least o fits (Alu op rd ra rb) taken bank exists = operation_cost-least o.profile fits.profile op
 cost-least o fits (Ldb k b r) taken bank exists = latency-least o fits bank exists
 cost-least o fits (Stb k) taken bank exists = latency-least o fits bank exists
-cost-least o fits (Idb rd k) taken bank exists = omega arith
 cost-least o fits (Ldw rd k ro) taken bank exists = fits.profile.word.0
 cost-least o fits (Stw rs k ro) taken bank exists = fits.profile.word.0
 cost-least o fits (Jmp offset) taken bank exists = fits.profile.taken.0
 cost-least o fits (Br cmp ra rb offset) true bank exists = fits.profile.taken.0
 cost-least o fits (Br cmp ra rb offset) false bank exists = omega arith
+cost-least o fits other taken bank exists = omega arith
 
 -- the greatest of some numbers and a first one is at least the first one
 fold_max-start : (a : ℕ) (xs : List ℕ) → a ≤ fold max a xs

@@ -2,16 +2,10 @@
 use Rattle.std.proofs.Common.{ℤ, true, false, cond, ◌≡◌, ℕ, zero, suc, get_or, ◌+◌, ◌<◌, ◌≤◌, List, [], ◌∷◌, ◌++◌, Option, Some, None, ◌⊎◌, inl, inr, refl, sym, ap, ◌∙◌, subst, ⊎_elim, arith, append_assoc}
 use Rattle.std.proofs.lemmas.Bool.{cases_lt}
 use Rattle.std.proofs.lemmas.List.{append-nil}
-use Rattle.lt_isa.specs.Object.{Parts}
-use Rattle.lt_isa.specs.Ranges.{IsInRange}
-use Rattle.lt_isa.specs.Object.{is_ram, is_eram}
-use Rattle.lt_isa.specs.Machine.{State, Observed, Halted, RamRead, RamWrite, EncRead, EncWrite, Oram, register, slot, read_event, write_event}
+use Rattle.lt_isa.specs.Prelude.{Parts, IsInRange, is_ram, is_eram, State, Observed, Halted, RamRead, RamWrite, EncRead, EncWrite, Oram, register, slot, read_event, write_event, StepResult, Goes, Stops, Faults, executed, step, step_start, Stamped, seen_at, stamped, trace_from, final_from, Reaches, Here, Then, HaltsAt, IsShaped}
 use Rattle.lt_isa.specs.declared.instructions.Instr.{Instr}
 use Rattle.lt_isa.specs.declared.instructions.Instr.TheVariants.{Nop, Halt, Li, Alu, Ldb, Stb, Idb, Ldw, Stw, Jmp, Br}
-use Rattle.gr_word.specs.Words.{compared}
-use Rattle.lt_isa.specs.Step.{StepResult, Goes, Stops, Faults, executed, step, step_start}
-use Rattle.lt_isa.specs.Trace.{Stamped, seen_at, stamped, trace_from, final_from, Reaches, Here, Then, HaltsAt}
-use Rattle.lt_isa.specs.Shape.{IsShaped}
+use Rattle.gr_word.specs.Prelude.{compared}
 use Rattle.lt_isa.proofs.Steps.{OnStepResult, on_goes, on_step, on_bound, on_choice, step_start-least, step-later}
 use Rattle.lt_isa.proofs.Shapes.{step-shaped, stop-shaped}
 use Rattle.std.proofs.lemmas.List.Elements.{Contains-append_cases, Contains-append_right}
@@ -156,17 +150,13 @@ ShowsNoHalt (Some event) = event ≡ Halted → ⊥
 
 executed-no_halt : (o : Parts) (s : State) (i : Instr)
     → OnStepResult (λ event t. ShowsNoHalt event) (λ t. Unit {0}) (executed o s i)
-executed-no_halt o s Nop = tt
-executed-no_halt o s Halt = tt
-executed-no_halt o s (Li rd value) = tt
-executed-no_halt o s (Alu op rd ra rb) = tt
 executed-no_halt o s (Ldb k b r) = read_event-no_halt b _ _
 executed-no_halt o s (Stb k) = on_bound _ _ (slot s k) _ (λ b a words bound. write_event-no_halt b a words)
 executed-no_halt o s (Idb rd k) = on_bound _ _ (slot s k) _ (λ b a words bound. tt)
 executed-no_halt o s (Ldw rd k ro) = on_bound _ _ (slot s k) _ (λ b a words bound. tt)
 executed-no_halt o s (Stw rs k ro) = on_bound _ _ (slot s k) _ (λ b a words bound. tt)
-executed-no_halt o s (Jmp offset) = tt
 executed-no_halt o s (Br cmp ra rb offset) = on_choice _ _ (compared cmp (register s ra) (register s rb)) _ _ tt tt
+executed-no_halt o s other = tt
 
 stamped-no_halt : (start at : ℕ) (event : Option Observed) → ShowsNoHalt event → HaltsAt (stamped start event) at → ⊥
 stamped-no_halt start at None quiet halts = omega (arith, halts.1)

@@ -7,10 +7,10 @@ use Rattle.gr_word.specs.declared.operations.Op.TheVariants.{Add, Sub, Mul, Div,
 use Rattle.gr_word.specs.declared.operations.Cmp.{Cmp}
 use Rattle.gr_word.specs.declared.operations.Cmp.TheVariants.{Eq, Ne, Lt, Le, Gt, Ge}
 use Rattle.lt_isa.specs.declared.instructions.Instr.{Instr}
-use Rattle.lt_isa.specs.declared.instructions.Instr.TheVariants as instr
 use Rattle.lt_isa.specs.declared.instruction_table.Kind.{Kind}
 use Rattle.lt_isa.specs.declared.instruction_table.Kind.TheVariants.{Nop, Halt, Li, Ldb, Stb, Idb, Ldw, Stw, Jmp, Alu, Br}
-use Rattle.lt_isa.specs.InstructionTable.{operation_code, comparison_code, opcode_of, kinds, kind_named, kind_of, operands_of, instruction_of}
+use Rattle.lt_isa.specs.Prelude.{operation_code, comparison_code, opcode_of, kinds, kind_named, kind_of, operands_of, instruction_of}
+use Rattle.lt_isa.specs.declared.instructions.Instr.TheVariants as instr
 
 find-passes : {X : Type 0} (p : X → Bool) (xs : List X) (x : X) → find p xs ≡ Some x → p x ≡ true
 find-passes p [] x e = absurd cc
@@ -81,17 +81,9 @@ comparison_code-lt Ge = omega arith
 
 -- an opcode is a byte
 pub opcode_of-lt : (kind : Kind) → opcode_of kind < 256
-opcode_of-lt Nop = omega arith
-opcode_of-lt Halt = omega arith
-opcode_of-lt Li = omega arith
-opcode_of-lt Ldb = omega arith
-opcode_of-lt Stb = omega arith
-opcode_of-lt Idb = omega arith
-opcode_of-lt Ldw = omega arith
-opcode_of-lt Stw = omega arith
-opcode_of-lt Jmp = omega arith
 opcode_of-lt (Alu op) = operation_code-lt op
 opcode_of-lt (Br cmp) = comparison_code-lt cmp
+opcode_of-lt other = omega arith
 
 -- an instruction is determined by its kind and its operands
 pub instruction_again : (i : Instr) → instruction_of (kind_of i) (operands_of i) ≡ i

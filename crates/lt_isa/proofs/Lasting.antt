@@ -1,11 +1,6 @@
 -- A run that is still going at a cycle hasn't halted below it.
 use Rattle.std.proofs.Common.{◌≡◌, ℕ, ◌≤◌, List, Option, refl, sym, ap, ◌∙◌, ⊎_elim, arith}
-use Rattle.lt_isa.specs.Object.{Parts}
-use Rattle.lt_isa.specs.Ranges.{IsInRange}
-use Rattle.lt_isa.specs.Machine.{State, Observed}
-use Rattle.lt_isa.specs.Step.{Goes, Stops, step}
-use Rattle.lt_isa.specs.Shape.{IsShaped}
-use Rattle.lt_isa.specs.Trace.{Stamped, trace_from, final_from, HaltsAt, Reaches, Here, Then}
+use Rattle.lt_isa.specs.Prelude.{Parts, IsInRange, State, Observed, Goes, Stops, step, IsShaped, Stamped, trace_from, final_from, HaltsAt, Reaches, Here, Then}
 use Rattle.lt_isa.proofs.Steps.{step_start-least}
 use Rattle.lt_isa.proofs.Stretches.{reaches-shaped, reaches-cycle, reaches-linear}
 use Rattle.lt_isa.proofs.Ends.{halted-from_halt}

@@ -1,59 +1,9 @@
 -- Two runs show the same, and one run meets no fault, if each step or stretch keeps a relation or a property of states.
-use Rattle.std.proofs.Common.{◌≡◌, ℕ, zero, suc, ◌+◌, ◌≤◌, cond, ltb, List, [], ◌++◌, Some, ◌⊎◌, refl, sym, ap, ◌∙◌, ⊎_elim, arith}
-use Rattle.lt_isa.specs.Object.{Parts}
-use Rattle.lt_isa.specs.Ranges.{IsInRange}
-use Rattle.lt_isa.specs.Machine.{State, Halted}
-use Rattle.lt_isa.specs.Step.{StepResult, Goes, Stops, Faults, step, step_start}
-use Rattle.lt_isa.specs.Trace.{Stamped, stamped, shown_then, trace_within, trace_from, Reaches}
-use Rattle.lt_isa.specs.Shape.{IsShaped}
+use Rattle.std.proofs.Common.{◌≡◌, ℕ, zero, suc, ◌+◌, ◌≤◌, List, ◌++◌, Some, ◌⊎◌, refl, sym, ap, ◌∙◌, ⊎_elim, arith}
+use Rattle.lt_isa.specs.Prelude.{Parts, IsInRange, State, Halted, Stops, step, step_start, Stamped, stamped, trace_from, Reaches, IsShaped}
 use Rattle.lt_isa.proofs.Steps.{step_start-least}
 use Rattle.lt_isa.proofs.Runs.{trace_from-past}
 use Rattle.lt_isa.proofs.Stretches.{below, reaches-shaped, alike_over, trace_split-stops}
-
--- two steps show the same and lead to related states, or end alike
-abbrev pub AreAlike : (State → State → Type 0) → StepResult → StepResult → Type 0
-AreAlike Related (Goes event s) (Goes event' t) = (event ≡ event') × Related s t
-AreAlike Related (Goes event s) (Stops t) = ⊥
-AreAlike Related (Goes event s) Faults = ⊥
-AreAlike Related (Stops s) (Goes event t) = ⊥
-AreAlike Related (Stops s) (Stops t) = Unit {0}
-AreAlike Related (Stops s) Faults = ⊥
-AreAlike Related Faults (Goes event t) = ⊥
-AreAlike Related Faults (Stops t) = ⊥
-AreAlike Related Faults Faults = Unit {0}
-
-shown-alike : (Related : State → State → Type 0) (start start' : ℕ) (first second : StepResult)
-    (f g : State → List Stamped)
-    → start ≡ start' → AreAlike Related first second → ((s t : State) → Related s t → f s ≡ g t)
-    → shown_then start first f ≡ shown_then start' second g
-shown-alike Related start start' (Goes event s) (Goes event' t) f g same alike rest =
-    ap (λ n. stamped n event ++ f s) same ∙ ap (λ e. stamped start' e ++ f s) alike.0
-    ∙ ap (λ l. stamped start' event' ++ l) (rest s t alike.1)
-shown-alike Related start start' (Goes event s) (Stops t) f g same alike rest = absurd alike
-shown-alike Related start start' (Goes event s) Faults f g same alike rest = absurd alike
-shown-alike Related start start' (Stops s) (Goes event t) f g same alike rest = absurd alike
-shown-alike Related start start' (Stops s) (Stops t) f g same alike rest = ap (λ n. stamped n (Some Halted)) same
-shown-alike Related start start' (Stops s) Faults f g same alike rest = absurd alike
-shown-alike Related start start' Faults (Goes event t) f g same alike rest = absurd alike
-shown-alike Related start start' Faults (Stops t) f g same alike rest = absurd alike
-shown-alike Related start start' Faults Faults f g same alike rest = refl
-
-module _ (o : Parts) (Related : State → State → Type 0) (keeps : (s t : State) → Related s t
-    → (step_start o s ≡ step_start o t) × AreAlike Related (step o s) (step o t)) where
-  lockstep-within : (k : ℕ) (s t : State) → Related s t → (n : ℕ) → trace_within k o s n ≡ trace_within k o t n
-  unfolding trace_within
-  lockstep-within zero s t related n = refl
-  lockstep-within (suc k) s t related n =
-      let kept = keeps s t related in
-      ap (λ start. cond (ltb start n) (shown_then (step_start o s) (step o s) (λ u. trace_within k o u n)) []) kept.0
-      ∙ ap (λ shown. cond (ltb (step_start o t) n) shown [])
-      (shown-alike Related (step_start o s) (step_start o t) (step o s) (step o t) _ _ kept.0 kept.1
-      (λ u v r. lockstep-within k u v r n))
-
-  -- related states show the same if each step keeps them related
-  pub lockstep : (s t : State) → Related s t → (n : ℕ) → trace_from o s n ≡ trace_from o t n
-  unfolding trace_from
-  lockstep s t related n = lockstep-within n s t related n
 
 -- stretches from two states show the same events, lead to related states, and take some cycles
 pub record Meets (o : Parts) (Related : State → State → Type 0) (s t : State) : Type 0 where

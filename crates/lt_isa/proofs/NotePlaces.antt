@@ -4,9 +4,8 @@ use Rattle.std.specs.Prelude.{All}
 use Rattle.std.proofs.lemmas.List.{append-nil}
 use Rattle.std.proofs.lemmas.List.Elements.{All-nil, All-cons}
 use Rattle.lt_isa.specs.declared.symbols.Note.{Note}
-use Rattle.lt_isa.specs.Object.{Parts}
-use Rattle.gr_base.specs.Lists.{EachAfter}
-use Rattle.lt_isa.specs.Ranges.{NoteFits, next_place, IsInRange}
+use Rattle.lt_isa.specs.Prelude.{Parts, NoteFits, next_place, IsInRange}
+use Rattle.gr_base.specs.Prelude.{EachAfter}
 use Rattle.gr_base.proofs.AtLast.{at_last-push}
 
 -- the first place after some notes doesn't fall if more notes follow

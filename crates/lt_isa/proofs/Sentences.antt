@@ -5,17 +5,9 @@ use Rattle.std.specs.Prelude.{slice_get}
 use Rattle.std.proofs.lemmas.Bool.{cases_lt}
 use Rattle.gr_word.specs.declared.variables.Label.{Label}
 use Rattle.gr_word.specs.declared.variables.Label.TheVariants.{Public, Secret}
-use Rattle.gr_word.specs.Words.{IsWord}
+use Rattle.gr_word.specs.Prelude.{IsWord}
 use Rattle.lt_isa.specs.declared.symbols.Symbol.{Symbol}
-use Rattle.lt_isa.specs.Object.{Parts}
-use Rattle.lt_isa.specs.Ranges.{IsInRange}
-use Rattle.lt_isa.specs.Machine.{State}
-use Rattle.lt_isa.specs.Shape.{IsShaped}
-use Rattle.lt_isa.specs.Step.{step, step_start}
-use Rattle.lt_isa.specs.Trace.{Stamped, trace_from, final_from}
-use Rattle.lt_isa.specs.Runs.{AreTraces, AreFinals}
-use Rattle.lt_isa.specs.Samples.{OneSecret, one_word}
-use Rattle.lt_isa.specs.Start.{Agree, FitsObject}
+use Rattle.lt_isa.specs.Prelude.{Parts, IsInRange, State, IsShaped, step, step_start, Stamped, trace_from, final_from, AreTraces, AreFinals, OneSecret, one_word, Agree, FitsObject}
 use Rattle.lt_isa.proofs.Steps.{step_start-least, step-later}
 use Rattle.lt_isa.proofs.Shapes.{step-shaped}
 use Rattle.lt_isa.proofs.Runs.{trace_from-past, trace_from-more, final_from-past, final_from-more, shown_then-same, left_then-same}

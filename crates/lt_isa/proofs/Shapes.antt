@@ -5,16 +5,11 @@ use Rattle.std.proofs.lemmas.List.{get_or_past, get_or-set_same, get_or-set_othe
 use Rattle.std.proofs.lemmas.List.Elements.{All-set}
 use Rattle.std.proofs.Math.Facts.{sfits_lit}
 use Rattle.std.proofs.Math.Nat.{mod-lt}
-use Rattle.gr_word.specs.Words.{IsWord, compared, unsigned_of}
-use Rattle.gr_word.specs.Fitting.{AreWords}
+use Rattle.gr_word.specs.Prelude.{IsWord, compared, unsigned_of, AreWords}
 use Rattle.gr_word.proofs.Words.{IsWord-applied}
 use Rattle.lt_isa.specs.declared.instructions.Instr.{Instr}
 use Rattle.lt_isa.specs.declared.instructions.Instr.TheVariants.{Nop, Halt, Li, Alu, Ldb, Stb, Idb, Ldw, Stw, Jmp, Br}
-use Rattle.lt_isa.specs.Object.{Parts, blocks_of}
-use Rattle.lt_isa.specs.Ranges.{IsInRange, InstrFits}
-use Rattle.lt_isa.specs.Machine.{State, Observed, Slot, slot, register, word_in, bank_blocks, block_at, set_register, set_slot, set_block}
-use Rattle.lt_isa.specs.Step.{Goes, Stops, executed, step, block_named}
-use Rattle.lt_isa.specs.Shape.{IsShaped, SlotFits, IsBlock}
+use Rattle.lt_isa.specs.Prelude.{Parts, blocks_of, IsInRange, InstrFits, State, Observed, Slot, slot, register, word_in, bank_blocks, block_at, set_register, set_slot, set_block, Goes, Stops, executed, step, block_named, IsShaped, SlotFits, IsBlock}
 use Rattle.lt_isa.proofs.Cycles.{blocks-least, blocks-most}
 use Rattle.lt_isa.proofs.Steps.{OnStepResult, on_goes, on_stops, on_step, on_bound, on_choice, instruction-fits, bound-fits}
 
@@ -120,8 +115,6 @@ block_named-below o fits b exists word = mod-lt (unsigned_of word) (blocks-least
 -- the state after an instruction has the shape
 executed-shaped : (o : Parts) → IsInRange o → (s : State) → IsShaped o s → (i : Instr)
     → InstrFits (length o.banks) i → OnStepResult (λ event t. IsShaped o t) (IsShaped o) (executed o s i)
-executed-shaped o fits s shaped Nop operands = IsShaped-moved o s _ _ shaped
-executed-shaped o fits s shaped Halt operands = IsShaped-moved o s _ _ shaped
 executed-shaped o fits s shaped (Li rd value) operands =
     IsShaped-set_register o _ rd value (IsShaped-moved o s _ _ shaped) operands.1
 executed-shaped o fits s shaped (Alu op rd ra rb) operands =
@@ -153,10 +146,10 @@ executed-shaped o fits s shaped (Stw rs k ro) operands =
       block_exists = was.block_exists;
       holds_block = IsBlock-set o words _ _ was.holds_block (IsWord-register o s shaped rs);
     }))
-executed-shaped o fits s shaped (Jmp offset) operands = IsShaped-moved o s _ _ shaped
 executed-shaped o fits s shaped (Br cmp ra rb offset) operands =
     on_choice _ _ (compared cmp (register s ra) (register s rb)) _ _ (IsShaped-moved o s _ _ shaped)
     (IsShaped-moved o s _ _ shaped)
+executed-shaped o fits s shaped other operands = IsShaped-moved o s _ _ shaped
 
 step-shaped_both : (o : Parts) → IsInRange o → (s : State) → IsShaped o s
     → OnStepResult (λ event t. IsShaped o t) (IsShaped o) (step o s)

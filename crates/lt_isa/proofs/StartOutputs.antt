@@ -2,17 +2,13 @@
 use Rattle.std.proofs.Common.{◌≡◌, ℕ, zero, suc, ◌+◌, ◌-◌, ◌*◌, ◌<◌, ◌≤◌, Bool, true, false, cond, ℤ, pos, List, [], ◌∷◌, ◌++◌, length, map, get_or, All, refl, sym, ap, ◌∙◌, arith}
 use Rattle.std.proofs.lemmas.List.FromFn.{fill_by_all}
 use Rattle.std.proofs.lemmas.List.Elements.{All-head, All-tail}
-use Rattle.gr_word.specs.Fitting.{FitsWants}
-use Rattle.gr_base.specs.Lists.{EachAfter}
+use Rattle.gr_word.specs.Prelude.{FitsWants}
+use Rattle.gr_base.specs.Prelude.{EachAfter}
 use Rattle.gr_base.proofs.AtLast.{at_last-push}
 use Rattle.gr_base.proofs.EachAfter.{EachAfter-at}
 use Rattle.lt_isa.specs.declared.profiles.BankSpec.{BankSpec}
 use Rattle.lt_isa.specs.declared.symbols.Symbol.{Symbol}
-use Rattle.lt_isa.specs.Object.{Parts, block_words, blocks_of, first_word, end_word}
-use Rattle.lt_isa.specs.Outputs.{bank_word_numbered, symbol_word, symbol_words, outputs}
-use Rattle.lt_isa.specs.Ranges.{IsInRange, SymbolFits}
-use Rattle.lt_isa.specs.SymbolPlaces.{last_bank, last_end}
-use Rattle.lt_isa.specs.Start.{want_of, FitsObject, covers, start_word, start_state}
+use Rattle.lt_isa.specs.Prelude.{Parts, block_words, blocks_of, first_word, end_word, bank_word_numbered, symbol_word, symbol_words, outputs, IsInRange, SymbolFits, last_bank, last_end, want_of, FitsObject, covers, start_word, start_state}
 use Rattle.lt_isa.proofs.StartWords.{covers-takes, takes-covers, bank_word-start}
 
 -- inputs that fit have one list for each variable

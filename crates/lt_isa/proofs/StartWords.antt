@@ -5,10 +5,7 @@ use Rattle.std.proofs.lemmas.Bool.{and_parts, and_from, eqb-true, eq-eqb, leb-tr
 use Rattle.std.proofs.lemmas.Nat.{div-add-mod', pow_pos}
 use Rattle.std.proofs.Math.Nat.{div-lt_iff_lt-mul, mod-lt}
 use Rattle.lt_isa.specs.declared.symbols.Symbol.{Symbol}
-use Rattle.lt_isa.specs.Object.{Parts, block_words, blocks_of, first_word, end_word}
-use Rattle.lt_isa.specs.Machine.{word_in}
-use Rattle.lt_isa.specs.Outputs.{bank_word_numbered}
-use Rattle.lt_isa.specs.Start.{covers, start_word, start_state}
+use Rattle.lt_isa.specs.Prelude.{Parts, block_words, blocks_of, first_word, end_word, word_in, bank_word_numbered, covers, start_word, start_state}
 use Rattle.lt_isa.proofs.Starts.{block-start, start_block-at}
 
 -- a symbol takes word number `at` of a bank

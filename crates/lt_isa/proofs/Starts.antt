@@ -7,13 +7,9 @@ use Rattle.std.proofs.lemmas.List.Elements.{All-tail, All-replicate, All-from_ge
 use Rattle.std.proofs.lemmas.List.FromFn.{length-map-range_with_len, get_or-map-range_with_len}
 use Rattle.std.proofs.Math.Facts.{sfits_lit}
 use Rattle.gr_word.specs.declared.variables.Label.TheVariants.{Public}
-use Rattle.gr_word.specs.Words.{IsWord}
-use Rattle.gr_word.specs.Fitting.{FitsWants}
+use Rattle.gr_word.specs.Prelude.{IsWord, FitsWants}
 use Rattle.lt_isa.specs.declared.symbols.Symbol.{Symbol}
-use Rattle.lt_isa.specs.Object.{Parts, block_words, blocks_of, first_word}
-use Rattle.lt_isa.specs.Machine.{Unbound, register, slot, bank_blocks, block_at, word_in}
-use Rattle.lt_isa.specs.Shape.{IsShaped, SlotFits, IsBlock}
-use Rattle.lt_isa.specs.Start.{want_of, FitsObject, covers, start_word, start_block, start_bank, start_banks, start_state, AgreeOn, Agree}
+use Rattle.lt_isa.specs.Prelude.{Parts, block_words, blocks_of, first_word, Unbound, register, slot, bank_blocks, block_at, word_in, IsShaped, SlotFits, IsBlock, want_of, FitsObject, covers, start_word, start_block, start_bank, start_banks, start_state, AgreeOn, Agree}
 use Rattle.lt_isa.proofs.Shapes.{IsWord-at}
 
 -- at the start registers are 0

@@ -4,17 +4,11 @@ use Rattle.std.proofs.lemmas.Bool.{cases_lt}
 use Rattle.std.proofs.lemmas.List.{get_or_past}
 use Rattle.std.specs.Prelude.{slice_get}
 use Rattle.std.proofs.lemmas.Option.{slice_get_within, get_or_from_slice_get}
-use Rattle.gr_word.specs.Words.{compared}
+use Rattle.gr_word.specs.Prelude.{compared}
 use Rattle.lt_isa.specs.declared.profiles.Profile.{Profile}
 use Rattle.lt_isa.specs.declared.instructions.Instr.{Instr}
 use Rattle.lt_isa.specs.declared.instructions.Instr.TheVariants.{Nop, Halt, Li, Alu, Ldb, Stb, Idb, Ldw, Stw, Jmp, Br}
-use Rattle.lt_isa.specs.Object.{Parts}
-use Rattle.lt_isa.specs.Ranges.{IsInRange, InstrFits, ProfileFits}
-use Rattle.lt_isa.specs.Machine.{State, Observed, Slot, Unbound, Bound, slot, register}
-use Rattle.lt_isa.specs.Costs.{greatest_cost}
-use Rattle.lt_isa.specs.Step.{StepResult, Goes, Stops, Faults, start_of, with_bound, executed, executed_if, passed, step, start_if, step_start}
-use Rattle.lt_isa.specs.Shape.{IsShaped, SlotFits, IsBound}
-use Rattle.lt_isa.specs.Windows.{most_wait}
+use Rattle.lt_isa.specs.Prelude.{Parts, IsInRange, InstrFits, ProfileFits, State, Observed, Slot, Unbound, Bound, slot, register, greatest_cost, StepResult, Goes, Stops, Faults, start_of, with_bound, executed, executed_if, step, start_if, step_start, IsShaped, SlotFits, IsBound, most_wait}
 use Rattle.lt_isa.proofs.Windows.{access_start-least, access_start-most}
 use Rattle.lt_isa.proofs.Cycles.{cost-least, latency-greatest}
 
@@ -149,9 +143,6 @@ IsLater start t = start + 1 ≤ t.cycle
 pub executed-later : (o : Parts) → IsInRange o → (s : State) → IsShaped o s → (i : Instr) → InstrFits (length o.banks) i
     → OnStepResult (λ event t. IsLater (start_of o.profile i s.cycle) t)
     (IsLater (start_of o.profile i s.cycle)) (executed o s i)
-executed-later o fits s shaped Nop operands = omega arith
-executed-later o fits s shaped Halt operands = omega arith
-executed-later o fits s shaped (Li rd value) operands = omega arith
 executed-later o fits s shaped (Alu op rd ra rb) operands =
     omega (arith, cost-least o fits (Alu op rd ra rb) false 0 (omega (arith, fits.bank_count)))
 executed-later o fits s shaped (Ldb k b r) operands =
@@ -167,6 +158,7 @@ executed-later o fits s shaped (Stw rs k ro) operands =
 executed-later o fits s shaped (Jmp offset) operands = omega (arith, fits.profile.taken)
 executed-later o fits s shaped (Br cmp ra rb offset) operands =
     on_choice _ _ (compared cmp (register s ra) (register s rb)) _ _ (omega (arith, fits.profile.taken)) (omega arith)
+executed-later o fits s shaped other operands = omega arith
 
 step-later_both : (o : Parts) → IsInRange o → (s : State) → IsShaped o s
     → OnStepResult (λ event t. IsLater (step_start o s) t) (IsLater (step_start o s)) (step o s)
@@ -182,21 +174,6 @@ pub step-later : (o : Parts) → IsInRange o → (s : State) → IsShaped o s �
     → step o s ≡ Goes event t → step_start o s + 1 ≤ t.cycle
 step-later o fits s shaped event t goes = on_goes _ _ (step o s) event t (step-later_both o fits s shaped) goes
 
--- an instruction that stops is a halt, and changes only the cycle
-executed-stops : (o : Parts) (s : State) (i : Instr)
-    → OnStepResult (λ event t. Unit {0}) (λ t. (i ≡ Halt) × (t ≡ passed o Halt false 0 s.place s)) (executed o s i)
-executed-stops o s Nop = tt
-executed-stops o s Halt = (refl, refl)
-executed-stops o s (Li rd value) = tt
-executed-stops o s (Alu op rd ra rb) = tt
-executed-stops o s (Ldb k b r) = tt
-executed-stops o s (Stb k) = on_bound _ _ (slot s k) _ (λ b a words bound. tt)
-executed-stops o s (Idb rd k) = on_bound _ _ (slot s k) _ (λ b a words bound. tt)
-executed-stops o s (Ldw rd k ro) = on_bound _ _ (slot s k) _ (λ b a words bound. tt)
-executed-stops o s (Stw rs k ro) = on_bound _ _ (slot s k) _ (λ b a words bound. tt)
-executed-stops o s (Jmp offset) = tt
-executed-stops o s (Br cmp ra rb offset) = on_choice _ _ (compared cmp (register s ra) (register s rb)) _ _ tt tt
-
 -- the cycle of a state is at most `end`
 abbrev IsBy : ℕ → State → Type 0
 IsBy end t = t.cycle ≤ end
@@ -204,10 +181,6 @@ IsBy end t = t.cycle ≤ end
 executed-by : (o : Parts) → IsInRange o → (s : State) → IsShaped o s → (i : Instr)
     → OnStepResult (λ event t. IsBy (s.cycle + greatest_cost o i) t) (IsBy (s.cycle + greatest_cost o i))
     (executed o s i)
-executed-by o fits s shaped Nop = omega arith
-executed-by o fits s shaped Halt = omega arith
-executed-by o fits s shaped (Li rd value) = omega arith
-executed-by o fits s shaped (Alu op rd ra rb) = omega arith
 executed-by o fits s shaped (Ldb k b r) = omega (arith, access_start-most o.profile fits.profile s.cycle)
 executed-by o fits s shaped (Stb k) =
     on_bound _ _ (slot s k) _ (λ b a words bound.
@@ -219,9 +192,9 @@ executed-by o fits s shaped (Stb k) =
 executed-by o fits s shaped (Idb rd k) = on_bound _ _ (slot s k) _ (λ b a words bound. omega arith)
 executed-by o fits s shaped (Ldw rd k ro) = on_bound _ _ (slot s k) _ (λ b a words bound. omega arith)
 executed-by o fits s shaped (Stw rs k ro) = on_bound _ _ (slot s k) _ (λ b a words bound. omega arith)
-executed-by o fits s shaped (Jmp offset) = omega arith
 executed-by o fits s shaped (Br cmp ra rb offset) =
     on_choice _ _ (compared cmp (register s ra) (register s rb)) _ _ (omega arith) (omega (arith, fits.profile.taken))
+executed-by o fits s shaped other = omega arith
 
 -- a step takes no more cycles than its instruction's greatest cost, which includes the wait
 pub step-by : (o : Parts) → IsInRange o → (s : State) → IsShaped o s → (i : Instr) → slice_get o.code s.place ≡ Some i

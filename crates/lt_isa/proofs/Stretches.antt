@@ -4,15 +4,10 @@ use Rattle.std.specs.List.{filter}
 use Rattle.std.proofs.lemmas.Bool.{cases_lt}
 use Rattle.std.proofs.lemmas.List.{append-nil}
 use Rattle.std.proofs.lemmas.List.Elements.{filter-append}
-use Rattle.lt_isa.specs.Object.{Parts}
-use Rattle.lt_isa.specs.Ranges.{IsInRange}
-use Rattle.lt_isa.specs.Machine.{State, Observed, Halted}
-use Rattle.lt_isa.specs.Step.{Goes, Stops, Faults, step, step_start}
-use Rattle.lt_isa.specs.Trace.{Stamped, stamped, trace_from, final_from, Reaches, Here, Then}
-use Rattle.lt_isa.specs.Shape.{IsShaped}
+use Rattle.lt_isa.specs.Prelude.{Parts, IsInRange, State, Observed, Halted, Goes, Stops, step, step_start, Stamped, stamped, trace_from, final_from, Reaches, Here, Then, IsShaped}
 use Rattle.lt_isa.proofs.Steps.{step_start-least, step-later}
 use Rattle.lt_isa.proofs.Shapes.{step-shaped}
-use Rattle.lt_isa.proofs.Runs.{trace_from-past, trace_from-goes, trace_from-stops, trace_from-faults, final_from-goes, final_from-stops, final_from-faults}
+use Rattle.lt_isa.proofs.Runs.{trace_from-past, trace_from-goes, trace_from-stops, final_from-goes, final_from-stops}
 
 -- the events that are stamped below a cycle
 abbrev pub below : ℕ → List Stamped → List Stamped
@@ -115,25 +110,12 @@ module _ (o : Parts) (fits : IsInRange o) where
       (cases_lt (step_start o u) n))
       ∙ sym (below-append n es (stamped (step_start o u) (Some Halted)))
 
-  pub trace_split-faults : (s : State) (es : List Stamped) (u : State) → Reaches o s es u → IsShaped o s
-      → step o u ≡ Faults → (n : ℕ) → trace_from o s n ≡ below n es
-  trace_split-faults s es u reaches shaped faults n =
-      trace_split s es u reaches shaped n
-      ∙ ap (λ l. below n es ++ l) (trace_from-faults o fits u n (reaches-shaped s es u reaches shaped) faults)
-      ∙ append-nil (below n es)
-
   -- the final state of a run that stops right after a stretch
   pub final_split-stops : (s : State) (es : List Stamped) (u t : State) → Reaches o s es u → IsShaped o s
       → step o u ≡ Stops t → (n : ℕ) → step_start o u < n → final_from o s n ≡ t
   final_split-stops s es u t reaches shaped stops n less =
       final_split s es u reaches shaped n (omega (arith, step_start-least o u))
       ∙ final_from-stops o fits u t n (reaches-shaped s es u reaches shaped) stops less
-
-  pub final_split-faults : (s : State) (es : List Stamped) (u : State) → Reaches o s es u → IsShaped o s
-      → step o u ≡ Faults → (n : ℕ) → u.cycle ≤ n → final_from o s n ≡ u
-  final_split-faults s es u reaches shaped faults n by =
-      final_split s es u reaches shaped n by
-      ∙ final_from-faults o fits u n (reaches-shaped s es u reaches shaped) faults
 
 goes-event : (event event' : Option Observed) (t t' : State) → Goes event t ≡ Goes event' t' → event ≡ event'
 goes-event event event' t t' e = cc

@@ -3,14 +3,11 @@ use Rattle.std.proofs.Common.{◌≡◌, ℕ, ◌+◌, ◌-◌, ◌*◌, ◌≤�
 use Rattle.std.proofs.lemmas.Bool.{eqb-true, eq-eqb, cond_both, cond-true}
 use Rattle.gr_word.specs.declared.variables.Shape.{Shape}
 use Rattle.gr_word.specs.declared.variables.Shape.TheVariants.{Scalar, Array}
-use Rattle.gr_base.specs.Lists.{Within, EachAfter}
+use Rattle.gr_base.specs.Prelude.{Within, EachAfter}
 use Rattle.gr_base.proofs.EachAfter.{EachBelow-from_after}
 use Rattle.lt_isa.specs.declared.profiles.BankSpec.{BankSpec}
 use Rattle.lt_isa.specs.declared.symbols.Symbol.{Symbol}
-use Rattle.lt_isa.specs.Limits.{most_blocks, most_words}
-use Rattle.lt_isa.specs.Object.{no_bank, first_word}
-use Rattle.lt_isa.specs.Ranges.{BankFits}
-use Rattle.lt_isa.specs.SymbolPlaces.{LiesBehind, FieldsFit, last_bank, last_end, blocks_in, first_free_word, most_length}
+use Rattle.lt_isa.specs.Prelude.{most_blocks, most_words, no_bank, first_word, BankFits, LiesBehind, FieldsFit, last_bank, last_end, blocks_in, first_free_word, most_length}
 
 -- a symbol's words are within the limit for any shape
 pub most_words-le : (shape : Shape) → most_words shape ≤ 1048576

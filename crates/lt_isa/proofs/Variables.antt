@@ -7,20 +7,11 @@ use Rattle.std.proofs.lemmas.List.Elements.{All-map}
 use Rattle.std.proofs.lemmas.List.FromFn.{length-map-range_with_len}
 use Rattle.gr_word.specs.declared.variables.Shape.{Shape}
 use Rattle.gr_word.specs.declared.variables.Shape.TheVariants.{Scalar, Array}
-use Rattle.gr_word.specs.Words.{IsWord}
-use Rattle.gr_word.specs.Fitting.{FitsWants, AreWords, AreDistinct, AreVariables}
+use Rattle.gr_word.specs.Prelude.{IsWord, FitsWants, AreWords, AreDistinct, AreVariables}
 use Rattle.lt_isa.specs.declared.symbols.Symbol.{Symbol}
 use Rattle.lt_isa.specs.declared.profiles.BankSpec.{BankSpec}
-use Rattle.lt_isa.specs.Object.{Parts, block_words, blocks_of}
-use Rattle.gr_base.specs.Lists.{EachAfter, Within}
-use Rattle.lt_isa.specs.Limits.{most_words}
-use Rattle.lt_isa.specs.Ranges.{IsInRange, SymbolFits}
-use Rattle.lt_isa.specs.Machine.{State, bank_blocks, block_at}
-use Rattle.lt_isa.specs.Shape.{IsShaped}
-use Rattle.lt_isa.specs.Step.{StepResult, Goes, Stops, Faults, step, step_start}
-use Rattle.lt_isa.specs.Trace.{left_then, final_within, final_from}
-use Rattle.lt_isa.specs.Start.{want_of, wants_of, FitsObject, start_state, final}
-use Rattle.lt_isa.specs.Outputs.{symbol_word, symbol_words, outputs}
+use Rattle.lt_isa.specs.Prelude.{Parts, block_words, blocks_of, most_words, IsInRange, SymbolFits, State, bank_blocks, block_at, IsShaped, StepResult, Goes, Stops, Faults, step, step_start, left_then, final_within, final_from, want_of, wants_of, FitsObject, start_state, final, symbol_word, symbol_words, outputs}
+use Rattle.gr_base.specs.Prelude.{EachAfter, Within}
 use Rattle.gr_base.proofs.EachAfter.{EachAfter-at}
 use Rattle.lt_isa.proofs.Shapes.{IsWord-at, step-shaped, stop-shaped}
 use Rattle.lt_isa.proofs.Starts.{IsShaped-start}

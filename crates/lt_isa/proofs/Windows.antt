@@ -6,11 +6,8 @@ use Rattle.std.proofs.lemmas.Bool.Decides.{eqb_tells}
 use Rattle.std.proofs.lemmas.Nat.{mod-mul-add, mod_below, div-add-mod'}
 use Rattle.std.proofs.Math.Nat.{mul-le-mul_right, suc-mul}
 use Rattle.lt_isa.specs.declared.profiles.Profile.{Profile}
-use Rattle.gr_base.specs.Lists.{Within}
-use Rattle.lt_isa.specs.Object.{usual_profile}
-use Rattle.lt_isa.specs.Limits.{most_period}
-use Rattle.lt_isa.specs.Ranges.{ProfileFits}
-use Rattle.lt_isa.specs.Windows.{IsOpen, IsAccessStart, HasUnitPeriod, access_start, has_unit_period, most_wait}
+use Rattle.gr_base.specs.Prelude.{Within}
+use Rattle.lt_isa.specs.Prelude.{usual_profile, most_period, ProfileFits, IsOpen, IsAccessStart, HasUnitPeriod, access_start, has_unit_period, most_wait}
 
 -- an access that is reached before the window closes in this period, and one that is reached later
 start-early : (p : Profile) (cycle : ℕ) → cycle % p.period < p.closes

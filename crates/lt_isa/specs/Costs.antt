@@ -10,32 +10,23 @@ use Rattle.lt_isa.specs.Windows.{most_wait}
 
 -- a product, a quotient and a remainder cost mul; every other operation costs alu
 abbrev pub operation_cost : Profile → Op → ℕ
-operation_cost p Add = p.alu
-operation_cost p Sub = p.alu
 operation_cost p Mul = p.mul
 operation_cost p Div = p.mul
 operation_cost p Rem = p.mul
 operation_cost p Remu = p.mul
-operation_cost p And = p.alu
-operation_cost p Or = p.alu
-operation_cost p Xor = p.alu
-operation_cost p Shl = p.alu
-operation_cost p Shr = p.alu
+operation_cost p other = p.alu
 
 -- What an instruction costs. Whether it was taken matters only for a branch; the bank that is accessed matters only for
 -- loads and stores of a block.
 abbrev pub cost_of : Parts → Instr → Bool → ℕ → ℕ
-cost_of o Nop taken bank = 1
-cost_of o Halt taken bank = 1
-cost_of o (Li rd value) taken bank = 1
 cost_of o (Alu op rd ra rb) taken bank = operation_cost o.profile op
 cost_of o (Ldb k b r) taken bank = latency_of o bank
 cost_of o (Stb k) taken bank = latency_of o bank
-cost_of o (Idb rd k) taken bank = 1
 cost_of o (Ldw rd k ro) taken bank = o.profile.word
 cost_of o (Stw rs k ro) taken bank = o.profile.word
 cost_of o (Jmp offset) taken bank = o.profile.taken
 cost_of o (Br cmp ra rb offset) taken bank = if taken then o.profile.taken else 1
+cost_of o other taken bank = 1
 
 -- the most that an instruction costs, wherever and whenever it runs: a load or a store of a block may also wait
 abbrev pub greatest_cost : Parts → Instr → ℕ

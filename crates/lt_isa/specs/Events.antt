@@ -1,7 +1,7 @@
 -- What an observer sees of an event of the code. (Traces are those of the GhostRider paper, in this project's profile.)
 use Rattle.lt_isa.specs.declared.events.Event.{Event}
-use Rattle.lt_isa.specs.declared.events.Event.TheVariants as event
 use Rattle.lt_isa.specs.Machine.{Observed, RamRead, RamWrite, EncRead, EncWrite, Oram, Halted}
+use Rattle.lt_isa.specs.declared.events.Event.TheVariants as event
 
 abbrev pub observed_of : Event → Observed
 observed_of (event.RamRead block words) = RamRead block words.now

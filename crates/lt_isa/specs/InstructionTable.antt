@@ -6,7 +6,6 @@ use Rattle.gr_word.specs.declared.operations.Op.TheVariants.{Add, Sub, Mul, Div,
 use Rattle.gr_word.specs.declared.operations.Cmp.{Cmp}
 use Rattle.gr_word.specs.declared.operations.Cmp.TheVariants.{Eq, Ne, Lt, Le, Gt, Ge}
 use Rattle.lt_isa.specs.declared.instructions.Instr.{Instr}
-use Rattle.lt_isa.specs.declared.instructions.Instr.TheVariants as instr
 use Rattle.lt_isa.specs.declared.instruction_table.Kind.{Kind}
 use Rattle.lt_isa.specs.declared.instruction_table.Kind.TheVariants.{Nop, Halt, Li, Ldb, Stb, Idb, Ldw, Stw, Jmp, Alu, Br}
 use Rattle.lt_isa.specs.declared.instruction_table.Operand.{Operand}
@@ -14,6 +13,7 @@ use Rattle.lt_isa.specs.declared.instruction_table.Operand.TheVariants.{Unused, 
 use Rattle.lt_isa.specs.declared.instruction_table.Format.{Format}
 use Rattle.lt_isa.specs.declared.instruction_table.Limits.{Limits}
 use Rattle.lt_isa.specs.declared.instruction_table.Operands.{Operands}
+use Rattle.lt_isa.specs.declared.instructions.Instr.TheVariants as instr
 
 -- all operations, all comparisons, and all kinds of instruction, in the order of their opcodes
 abbrev pub operations : List Op

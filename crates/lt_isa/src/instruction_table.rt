@@ -1,22 +1,5 @@
 ghost use Rattle.std.specs.Prelude.{◌≡◌, ◌<◌, pos, length};
-ghost use Rattle.lt_isa.specs.InstructionTable.{
-  cmp_word,
-  comparison_code,
-  format_of,
-  instruction_of,
-  kind_named,
-  kind_of,
-  limits_of,
-  mnemonic_of,
-  most_operand,
-  operand_numbers,
-  op_word,
-  opcode_of,
-  operands_of,
-  operation_code,
-  small_operands,
-  with_offset,
-};
+ghost use Rattle.lt_isa.specs.InstructionTable.{cmp_word, comparison_code, format_of, instruction_of, kind_named, kind_of, limits_of, mnemonic_of, most_operand, operand_numbers, op_word, opcode_of, operands_of, operation_code, small_operands, with_offset};
 ghost use Rattle.lt_isa.specs.Step.{target_of};
 
 use crate::instructions::Instr;

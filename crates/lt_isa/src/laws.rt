@@ -1,5 +1,5 @@
 ghost use Rattle.std.specs.Prelude.{◌≡◌, ◌↔◌, ℕ, ◌+◌, ◌*◌, ◌<◌, ◌≤◌, false, ℤ, pos, List, length, All, IsTrue};
-ghost use Rattle.gr_word.specs.Words.{IsWord};
+ghost use Rattle.gr_word.specs.Prelude.{IsWord};
 ghost use Rattle.lt_isa.specs.Machine.{State};
 ghost use Rattle.lt_isa.specs.Object.{Parts, block_words, blocks_of, usual_profile};
 ghost use Rattle.lt_isa.specs.Outputs.{bank_word_numbered, outputs};

@@ -1,5 +1,5 @@
 ghost use Rattle.std.specs.Prelude.{◌≡◌, ◌↔◌, ◌<◌, IfOk, IsOk, IsTrue, length, map};
-ghost use Rattle.gr_word.specs.Fitting.{AreVariables};
+ghost use Rattle.gr_word.specs.Prelude.{AreVariables};
 ghost use Rattle.lt_isa.specs.Costs.{cost_of};
 ghost use Rattle.lt_isa.specs.Object.{Parts};
 ghost use Rattle.lt_isa.specs.Ranges.{IsInRange};

@@ -1,5 +1,5 @@
 ghost use Rattle.std.specs.Prelude.{◌≡◌, ◌≢◌, ◌↔◌, ◌≤◌, ◌<◌, ◌+◌, ◌-◌, ◌^◌, All, IsTrue, [], length};
-ghost use Rattle.gr_base.specs.Lists.{EachAfter, Within};
+ghost use Rattle.gr_base.specs.Prelude.{EachAfter, Within};
 ghost use Rattle.lt_isa.specs.Object.{Parts};
 ghost use Rattle.lt_isa.specs.Limits.{fewest_banks, most_banks, most_symbols, most_symbol_words, most_notes, most_instructions, most_period};
 ghost use Rattle.lt_isa.specs.Ranges.{BankFits, InstrFits, IsInRange, NoteFits, ProfileFits, SymbolFits, is_slot_claim, next_place, total_length};

@@ -1,14 +1,6 @@
 ghost use Rattle.std.specs.Prelude.{◌≡◌, ◌↔◌, ◌≤◌, IsTrue};
 ghost use Rattle.lt_isa.specs.Object.{first_word, end_word};
-ghost use Rattle.lt_isa.specs.SymbolPlaces.{
-  FieldsFit,
-  LiesBehind,
-  blocks_in,
-  first_free_word,
-  last_bank,
-  last_end,
-  most_length,
-};
+ghost use Rattle.lt_isa.specs.SymbolPlaces.{FieldsFit, LiesBehind, blocks_in, first_free_word, last_bank, last_end, most_length};
 
 use crate::limits::most_words;
 use crate::profiles::BankSpec;

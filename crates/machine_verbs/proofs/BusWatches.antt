@@ -3,13 +3,13 @@ use Rattle.std.proofs.Common.{◌≡◌, ℕ, ◌<◌, true, false, List, [], �
 use Rattle.std.proofs.lemmas.List.{append-nil}
 use Rattle.std.proofs.lemmas.Grind.{flat_map-append}
 use Rattle.std.specs.Prelude.{codes, decimal}
-use Rattle.gr_base.specs.Added.{Adds, AddsLess}
-use Rattle.lt_isa.specs.Machine.{Observed}
-use Rattle.processor.specs.Watching.{TellsMore}
-use Rattle.run_data.specs.TraceText.{event_line, event_text}
-use Rattle.bus_arbiter.specs.Transfers.{Transfer}
-use Rattle.call_steps.specs.Showing.{halt_text, transfer_line, transfer_lines}
-use Rattle.machine_verbs.specs.Watched.{Grows, HoldsLines, HoldsTransfers, TearsTransfer}
+use Rattle.gr_base.specs.Prelude.{Adds, AddsLess}
+use Rattle.lt_isa.specs.Prelude.{Observed}
+use Rattle.processor.specs.Prelude.{TellsMore}
+use Rattle.run_data.specs.Prelude.{event_line, event_text}
+use Rattle.bus_arbiter.specs.Prelude.{Transfer}
+use Rattle.call_steps.specs.Prelude.{halt_text, transfer_line, transfer_lines}
+use Rattle.machine_verbs.specs.Prelude.{Grows, HoldsLines, HoldsTransfers, TearsTransfer}
 use Rattle.machine_verbs.proofs.PutLines.{cut_at_next, line_held}
 
 -- ---- no line is empty

@@ -3,19 +3,16 @@ use Rattle.std.proofs.Common.{◌≡◌, ℕ, ◌+◌, ◌-◌, ◌^◌, ◌<◌
 use Rattle.std.specs.Prelude.{codes, flat_map}
 use Rattle.std.proofs.lemmas.List.{append-nil}
 use Rattle.std.proofs.lemmas.Grind.{flat_map-append}
-use Rattle.gr_base.specs.Counts.{Rose}
-use Rattle.gr_base.specs.Added.{Adds, AddsLess}
+use Rattle.gr_base.specs.Prelude.{Rose, Adds, AddsLess}
 use Rattle.gr_base.proofs.Added.{AddsLess-then, AddsLess-more}
-use Rattle.gr_outside.specs.Sink.{SinkSeen}
+use Rattle.gr_outside.specs.Prelude.{SinkSeen}
 use Rattle.gr_outside.specs.declared.sink.SinkFailed.{SinkFailed}
-use Rattle.processor.specs.ObliviousBanks.{oram_of}
-use Rattle.path_oram.specs.Orams.{Oram}
-use Rattle.path_oram.specs.Settles.{AreLevels}
+use Rattle.processor.specs.Prelude.{oram_of}
+use Rattle.path_oram.specs.Prelude.{Oram, AreLevels}
 use Rattle.rand_chacha.specs.ChaCha.{ChaCha}
-use Rattle.run_data.specs.PathText.{level_text, levels_behind, levels_head, levels_line}
-use Rattle.run_data.specs.Putting.{PutsText}
+use Rattle.run_data.specs.Prelude.{level_text, levels_behind, levels_head, levels_line, PutsText}
 use Rattle.run_data.proofs.PathTexts.{behind-text, behind-parts}
-use Rattle.call_steps.specs.Levels.{OfOram, StandNow}
+use Rattle.call_steps.specs.Prelude.{OfOram, StandNow}
 
 -- part of a text was printed after others
 pub cut-so : (old mid new : SinkSeen) (done piece more text : List ℕ) (e : SinkFailed)

@@ -1,17 +1,14 @@
 -- The text of a trace without levels after it.
 use Rattle.std.proofs.Common.{◌≡◌, inl, inr, ℕ, ◌≤◌, Bool, true, false, List, [], ◌++◌, length, Option, Some, None, is_some, refl, sym, ◌∙◌, subst, arith}
-use Rattle.gr_base.specs.Counts.{Rose}
-use Rattle.gr_base.specs.Added.{Adds, AddsLess}
+use Rattle.gr_base.specs.Prelude.{Rose, Adds, AddsLess}
 use Rattle.gr_base.proofs.Added.{Adds-then, AddsLess-then, AddsLess-more}
-use Rattle.gr_outside.specs.Sink.{SinkSeen}
-use Rattle.lt_isa.specs.Trace.{Stamped}
-use Rattle.processor.specs.Watching.{WatcherTold}
+use Rattle.gr_outside.specs.Prelude.{SinkSeen}
+use Rattle.lt_isa.specs.Prelude.{Stamped}
+use Rattle.processor.specs.Prelude.{WatcherTold}
 use Rattle.call_replies.specs.declared.replies.Verdict.TheVariants.{Traced}
-use Rattle.call_steps.specs.Outside.{PutsSaid}
-use Rattle.call_steps.specs.Runs.{HaltOf}
-use Rattle.call_steps.specs.Showing.{shown_lines}
-use Rattle.call_replies.specs.Texts.{comes_to}
-use Rattle.machine_verbs.specs.Watched.{PutsShown, PutsTrace}
+use Rattle.call_steps.specs.Prelude.{PutsSaid, HaltOf, shown_lines}
+use Rattle.call_replies.specs.Prelude.{comes_to}
+use Rattle.machine_verbs.specs.Prelude.{PutsShown, PutsTrace}
 use Rattle.call_steps.proofs.Saying.{halts-or-not}
 
 longs : (halted : Bool) → 1 ≤ length (comes_to (Traced halted)).text

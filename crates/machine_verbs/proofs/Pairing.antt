@@ -1,26 +1,19 @@
 -- From pair to pair of a bus.
 use Rattle.std.proofs.Common.{◌≡◌, ℕ, zero, suc, ◌+◌, ◌<◌, ◌≤◌, ℤ, List, [], ◌∷◌, ◌++◌, drop, get_or, length, map, Option, Some, None, refl, sym, ap, ◌∙◌, subst, ◌⊎◌, inl, inr, ⊎_elim, arith}
 use Rattle.std.proofs.lemmas.List.{drop_all}
-use Rattle.lt_isa.specs.Object.{Parts}
-use Rattle.lt_isa.specs.Ranges.{IsInRange}
-use Rattle.lt_isa.specs.Start.{FitsObject}
-use Rattle.bus_arbiter.specs.Laws.{AllFit}
+use Rattle.lt_isa.specs.Prelude.{Parts, IsInRange, FitsObject}
+use Rattle.bus_arbiter.specs.Prelude.{AllFit, refusal, IsPlan, PlanRefuses, PlanTakes, share_of}
 use Rattle.bus_arbiter.specs.declared.errors.BusError.{BusError}
-use Rattle.bus_arbiter.specs.declared.errors.BusError.TheVariants as bus
 use Rattle.bus_arbiter.specs.declared.shares.Share.{Share}
-use Rattle.bus_arbiter.specs.Refusals.{refusal}
-use Rattle.bus_arbiter.specs.Shares.{IsPlan, PlanRefuses, PlanTakes, share_of}
 use Rattle.bus_arbiter.proofs.Refusals.{refuses, takes}
 use Rattle.bus_arbiter.proofs.ShareRanges.{share-fits}
 use Rattle.call_replies.specs.declared.replies.Verdict.TheVariants.{OffBus}
-use Rattle.command_words.specs.Pairs.{Pair}
-use Rattle.machine_verbs.specs.Bus.{Read, bus_said, bus_work, none_read, on_plan, one_read, shares_bus, with_core, with_cores}
-use Rattle.call_steps.specs.Reached.{Finds, FindsNone, HasReached, HasStopped, Stage}
-use Rattle.machine_verbs.specs.Sharing.{AreRead}
-use Rattle.call_steps.specs.Steps.{with_accepted, with_inputs}
-use Rattle.call_replies.specs.Texts.{Said, comes_to, no_memory}
-use Rattle.call_steps.specs.Work.{Work}
+use Rattle.command_words.specs.Prelude.{Pair}
+use Rattle.machine_verbs.specs.Prelude.{Read, bus_said, bus_work, none_read, on_plan, one_read, shares_bus, with_core, with_cores, AreRead}
+use Rattle.call_steps.specs.Prelude.{Finds, FindsNone, HasReached, HasStopped, Stage, with_accepted, with_inputs, Work}
+use Rattle.call_replies.specs.Prelude.{Said, comes_to, no_memory}
 use Rattle.call_steps.proofs.Reaching.{out-of-memory, then-reached, then-stopped, with-verdict}
+use Rattle.bus_arbiter.specs.declared.errors.BusError.TheVariants as bus
 
 -- ---- the plan's result is the computed one
 

@@ -3,16 +3,14 @@ use Rattle.std.proofs.Common.{◌≡◌, ◌≢◌, ℕ, suc, ◌+◌, ◌≤◌
 use Rattle.std.specs.Prelude.{◌==◌, ◌^◌, ◌%◌, slice_index}
 use Rattle.std.proofs.lemmas.Bool.{eqb-true}
 use Rattle.std.proofs.lemmas.List.{length-map, nil_from_length}
-use Rattle.lt_isa.specs.Machine.{Observed, RamRead, RamWrite, EncRead, EncWrite, Oram, Halted}
-use Rattle.lt_isa.specs.Trace.{Stamped, seen_at}
+use Rattle.lt_isa.specs.Prelude.{Observed, RamRead, RamWrite, EncRead, EncWrite, Oram, Halted, Stamped, seen_at}
 use Rattle.banks.specs.declared.bank.Leaves.{Leaves}
-use Rattle.banks.specs.Banks.{no_leaves, one_leaf}
-use Rattle.banks.specs.ObliviousEvents.{accesses_shown}
-use Rattle.processor.specs.Watching.{WatcherTold, AnEvent, with_paths}
-use Rattle.path_oram.specs.WordsRead.{leaves_shown, words_read}
+use Rattle.banks.specs.Prelude.{no_leaves, one_leaf, accesses_shown}
+use Rattle.processor.specs.Prelude.{WatcherTold, AnEvent, with_paths}
+use Rattle.path_oram.specs.Prelude.{leaves_shown, words_read}
 use Rattle.path_oram.proofs.ShownAlike.{read_length}
-use Rattle.recursive_oram.specs.RecLeaves.{Size, leaves_read_after, rec_leaves, words_made}
-use Rattle.call_steps.specs.PathsShown.{AnAccess, NoAccess, NoMore, ShowsPaths, paths_of_bank}
+use Rattle.recursive_oram.specs.Prelude.{Size, leaves_read_after, rec_leaves, words_made}
+use Rattle.call_steps.specs.Prelude.{AnAccess, NoAccess, NoMore, ShowsPaths, paths_of_bank}
 
 -- ---- the order of events and paths
 

@@ -1,9 +1,9 @@
 -- Texts that are printed in sequence.
 use Rattle.std.proofs.Common.{ℕ, ◌<◌, List, ◌++◌, length, Option, Result, Ok, Err, ◌∙◌, subst, arith}
 use Rattle.gr_base.proofs.Added.{Adds-then, AddsLess-then, AddsLess-more}
-use Rattle.gr_base.specs.Counts.{Rose}
+use Rattle.gr_base.specs.Prelude.{Rose}
 use Rattle.gr_outside.specs.declared.sink.SinkFailed.{SinkFailed}
-use Rattle.run_data.specs.Putting.{PutsText}
+use Rattle.run_data.specs.Prelude.{PutsText}
 
 -- a text was printed, and then another one or a prefix of it
 pub puts-then : (old middle new : Option (List ℕ)) (before between now : ℕ) (first second : List ℕ)

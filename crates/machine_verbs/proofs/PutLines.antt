@@ -2,8 +2,8 @@
 use Rattle.std.proofs.Common.{◌≡◌, ℕ, ◌+◌, ◌<◌, Bool, true, false, List, [], ◌++◌, length, take, drop, Option, Some, None, refl, sym, ap, ◌∙◌, arith, length-append, append_assoc}
 use Rattle.std.proofs.lemmas.List.{append-nil, take-append-le}
 use Rattle.std.proofs.Math.Seq.{take-append-add, take-append_seam, drop-append_seam}
-use Rattle.gr_base.specs.Added.{Adds, AddsLess}
-use Rattle.machine_verbs.specs.Watched.{Lines, HoldsLines, HoldsPart, Grows}
+use Rattle.gr_base.specs.Prelude.{Adds, AddsLess}
+use Rattle.machine_verbs.specs.Prelude.{Lines, HoldsLines, HoldsPart, Grows}
 
 -- a line was written whole after complete lines
 more-lines : (before now : List ℕ) (start stop mark : ℕ) (text line : List ℕ)

@@ -2,34 +2,18 @@
 use Rattle.std.proofs.Common.{◌≡◌, inl, inr, ℕ, zero, suc, ◌+◌, ◌<◌, ◌≤◌, ℤ, Bool, true, false, ◌&&◌, List, [], ◌∷◌, ◌++◌, length, drop, get_or, take, take-append-drop, Option, Some, None, is_some, refl, sym, ap, ap₂, ◌∙◌, subst, arith, append_assoc, length-append}
 use Rattle.std.specs.Prelude.{codes, decimal, slice_get}
 use Rattle.std.proofs.lemmas.List.{append-nil, length-map, length-take-le}
-use Rattle.gr_base.specs.Added.{Adds, AddsLess}
+use Rattle.gr_base.specs.Prelude.{Adds, AddsLess, Rose}
 use Rattle.gr_base.proofs.Added.{Adds-then, AddsLess-then, AddsLess-more}
-use Rattle.gr_base.specs.Counts.{Rose}
-use Rattle.gr_outside.specs.Shelf.{ShelfSeen}
-use Rattle.gr_outside.specs.Sink.{SinkSeen}
-use Rattle.lt_isa.specs.Machine.{State}
-use Rattle.lt_isa.specs.Object.{Parts}
-use Rattle.lt_isa.specs.Ranges.{IsInRange}
-use Rattle.lt_isa.specs.Start.{FitsObject, start_state}
-use Rattle.lt_isa.specs.Trace.{Stamped, trace_from}
-use Rattle.processor.specs.Ends.{EndsAs}
-use Rattle.bus_arbiter.specs.Cores.{Core, LeftIf, RanTo, end_as, trace_to, traces_to}
-use Rattle.bus_arbiter.specs.Laws.{AllFit, traces_on}
-use Rattle.bus_arbiter.specs.Turns.{AllLeft}
-use Rattle.bus_arbiter.specs.Transfers.{Transfer}
-use Rattle.path_oram.specs.Orams.{Oram}
+use Rattle.gr_outside.specs.Prelude.{ShelfSeen, SinkSeen}
+use Rattle.lt_isa.specs.Prelude.{State, Parts, IsInRange, FitsObject, start_state, Stamped, trace_from}
+use Rattle.processor.specs.Prelude.{EndsAs}
+use Rattle.bus_arbiter.specs.Prelude.{Core, LeftIf, RanTo, end_as, trace_to, traces_to, AllFit, traces_on, AllLeft, Transfer}
+use Rattle.path_oram.specs.Prelude.{Oram}
 use Rattle.rand_chacha.specs.ChaCha.{ChaCha}
 use Rattle.call_replies.specs.declared.replies.Verdict.TheVariants.{Shared}
-use Rattle.call_steps.specs.Beginning.{BankBegins, HasBegun}
-use Rattle.command_words.specs.Pairs.{Pair}
-use Rattle.machine_verbs.specs.Bus.{Read, all_halted, bus_work, shares_bus, with_halts}
-use Rattle.call_steps.specs.Outside.{Explains, outside}
-use Rattle.call_steps.specs.Progress.{HasLeft}
-use Rattle.call_steps.specs.Questions.{WhatIsJoined, WhenItHalts}
-use Rattle.call_steps.specs.Runs.{HaltOf}
-use Rattle.machine_verbs.specs.Sharing.{AllBegin, AreHalts, PutsHalts, PutsJoined, PutsShared, halts_of}
-use Rattle.call_steps.specs.Showing.{bus_seen, core_line, core_lines, halt_text, transfer_lines}
-use Rattle.call_steps.specs.Work.{Asks, Ends, Work}
+use Rattle.call_steps.specs.Prelude.{BankBegins, HasBegun, Explains, outside, HasLeft, WhatIsJoined, WhenItHalts, HaltOf, bus_seen, core_line, core_lines, halt_text, transfer_lines, Asks, Ends, Work}
+use Rattle.command_words.specs.Prelude.{Pair}
+use Rattle.machine_verbs.specs.Prelude.{Read, all_halted, bus_work, shares_bus, with_halts, AllBegin, AreHalts, PutsHalts, PutsJoined, PutsShared, halts_of}
 use Rattle.call_steps.proofs.Answering.{judged-said}
 use Rattle.machine_verbs.proofs.BusWatches.{halt-some}
 use Rattle.call_steps.proofs.Progressing.{leads-on}

@@ -2,32 +2,21 @@
 use Rattle.std.proofs.Common.{◌≡◌, ℕ, ◌-◌, ◌<◌, ◌≤◌, ◌^◌, ℤ, List, [], length, map, get_or, Option, Some, None, refl, sym, ap, ◌∙◌, subst, arith}
 use Rattle.std.specs.List.{All}
 use Rattle.banks.specs.declared.bank.Leaves.{Leaves}
-use Rattle.banks.specs.Accesses.{accesses_from}
+use Rattle.banks.specs.Prelude.{accesses_from}
 use Rattle.banks.proofs.AccessBounds.{accesses-counted, blocks-exist}
-use Rattle.call_steps.specs.Showing.{run_seen}
+use Rattle.call_steps.specs.Prelude.{run_seen, BankBegins, BeginFrom, AllStand, MayEndOn, MayRun, OfOram, IsShown, OfBank, words_drawn, seeded_words, stream_from}
 use Rattle.std.proofs.lemmas.List.{length-map}
 use Rattle.std.proofs.lemmas.List.Elements.{All-map}
 use Rattle.std.proofs.lemmas.Nat.{pow_pos}
 use Rattle.std.proofs.Math.Nat.{mod-lt}
-use Rattle.lt_isa.specs.Object.{Parts, blocks_of}
-use Rattle.lt_isa.specs.Ranges.{IsInRange}
-use Rattle.lt_isa.specs.Start.{FitsObject, start_state, trace}
+use Rattle.lt_isa.specs.Prelude.{Parts, blocks_of, IsInRange, FitsObject, start_state, trace}
 use Rattle.lt_isa.proofs.Starts.{IsShaped-start}
-use Rattle.processor.specs.ObliviousBanks.{oram_of, paths_shown, shown_of}
-use Rattle.processor.specs.Watching.{run_shown}
-use Rattle.path_oram.specs.LeavesAlike.{touched}
-use Rattle.path_oram.specs.Orams.{Oram, paths_ahead}
-use Rattle.path_oram.specs.Places.{Places, first_places}
-use Rattle.path_oram.specs.Whole.{IsHeightFor, IsWhole}
-use Rattle.path_oram.specs.Words.{first_words, leaf_of}
+use Rattle.processor.specs.Prelude.{oram_of, paths_shown, shown_of, run_shown}
+use Rattle.path_oram.specs.Prelude.{touched, Oram, paths_ahead, Places, first_places, IsHeightFor, IsWhole, first_words, leaf_of}
 use Rattle.path_oram.proofs.Ahead.{length-first_words}
 use Rattle.path_oram.proofs.Beginning.{first_whole}
 use Rattle.path_oram.proofs.Ending.{settled_after}
 use Rattle.rand_chacha.specs.ChaCha.{ChaCha}
-use Rattle.call_steps.specs.Beginning.{BankBegins, BeginFrom}
-use Rattle.call_steps.specs.Levels.{AllStand, MayEndOn, MayRun, OfOram}
-use Rattle.call_steps.specs.Paths.{IsShown, OfBank, words_drawn}
-use Rattle.call_steps.specs.Seeds.{seeded_words, stream_from}
 use Rattle.call_steps.proofs.Beginnings.{each-begins}
 use Rattle.machine_verbs.proofs.PathsShown.{leaf-count, paths-with_paths, shows-with_paths}
 

@@ -1,26 +1,16 @@
 -- What a run over recursive banks shows.
 use Rattle.std.proofs.Common.{◌≡◌, ℕ, ◌+◌, ◌*◌, ◌-◌, ℤ, List, [], length, map, Option, Some, None, refl, sym, ap, ◌∙◌, subst}
 use Rattle.std.proofs.lemmas.List.{length-map}
-use Rattle.lt_isa.specs.Object.{Parts}
-use Rattle.lt_isa.specs.Ranges.{IsInRange}
-use Rattle.lt_isa.specs.Start.{FitsObject, start_state, trace}
+use Rattle.lt_isa.specs.Prelude.{Parts, IsInRange, FitsObject, start_state, trace}
 use Rattle.lt_isa.proofs.Starts.{IsShaped-start}
 use Rattle.banks.specs.declared.bank.Leaves.{Leaves}
-use Rattle.banks.specs.Accesses.{accesses_from}
+use Rattle.banks.specs.Prelude.{accesses_from}
 use Rattle.banks.proofs.AccessBounds.{accesses-counted, blocks-exist}
-use Rattle.processor.specs.ObliviousBanks.{oram_of, paths_shown, shown_of}
-use Rattle.processor.specs.Watching.{run_shown}
-use Rattle.path_oram.specs.LeavesAlike.{touched}
-use Rattle.path_oram.specs.Words.{first_words}
-use Rattle.recursive_oram.specs.Levels.{shown_ahead}
-use Rattle.recursive_oram.specs.RecLeaves.{rec_leaves, size_of, words_made}
-use Rattle.recursive_oram.specs.RecursiveOrams.{Recursive, levels_of, all_trees}
+use Rattle.processor.specs.Prelude.{oram_of, paths_shown, shown_of, run_shown}
+use Rattle.path_oram.specs.Prelude.{touched, first_words}
+use Rattle.recursive_oram.specs.Prelude.{shown_ahead, rec_leaves, size_of, words_made, Recursive, levels_of, all_trees}
 use Rattle.rand_chacha.specs.ChaCha.{ChaCha}
-use Rattle.call_steps.specs.Beginning.{RecursiveBegins, BeginFrom}
-use Rattle.call_steps.specs.Levels.{OfOram}
-use Rattle.call_steps.specs.RecursivePaths.{IsShownInTrees, OfRecursiveBank}
-use Rattle.call_steps.specs.Showing.{run_seen}
-use Rattle.call_steps.specs.Seeds.{seeded_words, stream_from}
+use Rattle.call_steps.specs.Prelude.{RecursiveBegins, BeginFrom, OfOram, IsShownInTrees, OfRecursiveBank, run_seen, seeded_words, stream_from}
 use Rattle.call_steps.proofs.Beginnings.{each-begins}
 use Rattle.machine_verbs.proofs.PathsShown.{paths-with_paths, rec-leaf-count, shows-with_paths}
 

@@ -2,22 +2,15 @@
 use Rattle.std.proofs.Common.{◌≡◌, ◌≢◌, ℕ, ℤ, false, List, [], Option, Some, None, is_some, inl, inr, ap, sym, ◌∙◌, subst, Bool, true, refl}
 use Rattle.std.proofs.lemmas.Option.{same_Some}
 use Rattle.std.specs.Prelude.{map}
-use Rattle.gr_base.specs.Added.{Adds}
-use Rattle.gr_outside.specs.Sink.{SinkSeen}
-use Rattle.lt_isa.specs.Object.{Parts}
-use Rattle.lt_isa.specs.Start.{trace}
-use Rattle.run_data.specs.TraceText.{trace_text_of}
-use Rattle.processor.specs.Watching.{AnEvent, WatcherTold, events_in}
+use Rattle.gr_base.specs.Prelude.{Adds}
+use Rattle.gr_outside.specs.Prelude.{SinkSeen}
+use Rattle.lt_isa.specs.Prelude.{Parts, trace}
+use Rattle.run_data.specs.Prelude.{trace_text_of}
+use Rattle.processor.specs.Prelude.{AnEvent, WatcherTold, events_in}
 use Rattle.call_replies.specs.declared.replies.Verdict.TheVariants.{Traced}
-use Rattle.call_steps.specs.Outside.{PutsSaid}
-use Rattle.call_steps.specs.Showing.{Seen, events_alone, run_seen}
-use Rattle.machine_verbs.specs.TracedText.{IsTextOfTrace}
-use Rattle.machine_verbs.specs.Watched.{PutsTrace, kept}
-use Rattle.call_steps.specs.Work.{IsVerdict, said_at, Ends}
+use Rattle.call_steps.specs.Prelude.{PutsSaid, Seen, events_alone, run_seen, IsVerdict, said_at, Ends, IsRight, WhatIsShown, WhenItHalts, ExplainsRest}
+use Rattle.machine_verbs.specs.Prelude.{IsTextOfTrace, PutsTrace, kept, traces_on, shows_on}
 use Rattle.machine_verbs.proofs.Watches.{kept-events, text-alone, kept-all}
-use Rattle.call_steps.specs.Questions.{IsRight, WhatIsShown, WhenItHalts}
-use Rattle.machine_verbs.specs.Trace.{traces_on, shows_on}
-use Rattle.call_steps.specs.Reached.{ExplainsRest}
 use Rattle.call_steps.proofs.Progressing.{leads-on}
 use Rattle.call_steps.proofs.Answering.{judged-said}
 

@@ -4,30 +4,21 @@ use Rattle.std.proofs.lemmas.Bool.{cases_lt}
 use Rattle.std.proofs.lemmas.List.{append-nil}
 use Rattle.std.proofs.Math.ListN.{get_or-append}
 use Rattle.std.proofs.Math.Seq.{get_or-append_seam}
-use Rattle.gr_base.specs.Counts.{Rose}
-use Rattle.gr_base.specs.Added.{Adds, AddsLess}
+use Rattle.gr_base.specs.Prelude.{Rose, Adds, AddsLess}
 use Rattle.gr_base.proofs.Added.{Adds-then, AddsLess-then, AddsLess-more}
-use Rattle.gr_outside.specs.Sink.{SinkSeen}
-use Rattle.lt_isa.specs.Machine.{State}
-use Rattle.lt_isa.specs.Object.{Parts}
-use Rattle.lt_isa.specs.Trace.{Stamped}
-use Rattle.banks.specs.Accesses.{accesses_from, in_bank}
-use Rattle.processor.specs.ObliviousBanks.{ComeBy, OfBoth, oram_of}
-use Rattle.processor.specs.Watching.{WatcherTold}
-use Rattle.path_oram.specs.Orams.{ComesBy, Oram}
-use Rattle.path_oram.specs.Settles.{AreLevels}
-use Rattle.path_oram.specs.Whole.{IsWhole}
+use Rattle.gr_outside.specs.Prelude.{SinkSeen}
+use Rattle.lt_isa.specs.Prelude.{State, Parts, Stamped}
+use Rattle.banks.specs.Prelude.{accesses_from, in_bank}
+use Rattle.processor.specs.Prelude.{ComeBy, OfBoth, oram_of, WatcherTold}
+use Rattle.path_oram.specs.Prelude.{ComesBy, Oram, AreLevels, IsWhole}
 use Rattle.path_oram.proofs.Existing.{ends_somehow}
 use Rattle.rand_chacha.specs.ChaCha.{ChaCha}
-use Rattle.run_data.specs.PathText.{levels_behind}
+use Rattle.run_data.specs.Prelude.{levels_behind}
 use Rattle.run_data.proofs.PathTexts.{behind-text, behind-parts}
 use Rattle.call_replies.specs.declared.replies.Verdict.TheVariants.{Traced}
-use Rattle.call_steps.specs.Levels.{AreBehind, FirstBanks, MayEndOn, MayRun, OfOram, PutsLast, StandAfter, StandNow}
-use Rattle.call_steps.specs.Runs.{HaltOf}
-use Rattle.call_steps.specs.Seeds.{stream_from}
-use Rattle.call_steps.specs.Showing.{shown_lines}
-use Rattle.call_replies.specs.Texts.{comes_to}
-use Rattle.machine_verbs.specs.Watched.{PutsShown, PutsTrace}
+use Rattle.call_steps.specs.Prelude.{AreBehind, FirstBanks, MayEndOn, MayRun, OfOram, PutsLast, StandAfter, StandNow, HaltOf, stream_from, shown_lines}
+use Rattle.call_replies.specs.Prelude.{comes_to}
+use Rattle.machine_verbs.specs.Prelude.{PutsShown, PutsTrace}
 use Rattle.call_steps.proofs.Saying.{halts-or-not}
 
 -- ---- levels of bank after bank

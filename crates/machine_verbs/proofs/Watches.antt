@@ -2,16 +2,15 @@
 use Rattle.std.proofs.Common.{◌≡◌, ℕ, ◌<◌, Bool, true, false, List, [], ◌∷◌, ◌++◌, length, map, take, Option, Some, None, refl, sym, ap, ◌∙◌, subst, arith, length-append}
 use Rattle.std.proofs.lemmas.List.{append-nil}
 use Rattle.std.proofs.lemmas.Grind.{flat_map-append}
-use Rattle.gr_base.specs.Added.{Adds, AddsLess}
-use Rattle.lt_isa.specs.Trace.{Stamped}
+use Rattle.gr_base.specs.Prelude.{Adds, AddsLess}
+use Rattle.lt_isa.specs.Prelude.{Stamped}
 use Rattle.std.specs.Prelude.{codes, decimal, flat_map}
-use Rattle.run_data.specs.TraceText.{event_line, event_text}
+use Rattle.run_data.specs.Prelude.{event_line, event_text, leaves_text}
 use Rattle.banks.specs.declared.bank.Leaves.{Leaves}
-use Rattle.processor.specs.Watching.{WatcherTold, AnEvent, APath, TellsMore, events_in}
-use Rattle.run_data.specs.PathText.{leaves_text}
-use Rattle.machine_verbs.specs.Watched.{Lines, HoldsLines, HoldsTold, Tears, Grows, kept}
+use Rattle.processor.specs.Prelude.{WatcherTold, AnEvent, APath, TellsMore, events_in}
+use Rattle.machine_verbs.specs.Prelude.{Lines, HoldsLines, HoldsTold, Tears, Grows, kept}
 use Rattle.machine_verbs.proofs.PutLines.{cut_at_next, line_held, lines_put}
-use Rattle.call_steps.specs.Showing.{IsTraceText, shown_line, shown_lines}
+use Rattle.call_steps.specs.Prelude.{IsTraceText, shown_line, shown_lines}
 
 -- events that the watcher received in two parts
 kept-append : (paths : Bool) (xs ys : List WatcherTold) → kept paths (xs ++ ys) ≡ kept paths xs ++ kept paths ys

@@ -6,7 +6,6 @@ use Rattle.bus_arbiter.specs.Refusals.{refusal}
 use Rattle.bus_arbiter.specs.Shares.{share_of}
 use Rattle.bus_arbiter.specs.declared.shares.Share.{Share}
 use Rattle.bus_arbiter.specs.declared.errors.BusError.{BusError}
-use Rattle.bus_arbiter.specs.declared.errors.BusError.TheVariants as bus
 use Rattle.call_replies.specs.declared.replies.Verdict.TheVariants.{OffBus, Shared}
 use Rattle.call_steps.specs.Questions.{WhatIsJoined, WhenItHalts}
 use Rattle.call_steps.specs.Showing.{bus_seen, nothing_seen}
@@ -14,6 +13,7 @@ use Rattle.call_replies.specs.Texts.{Said, comes_to, no_memory}
 use Rattle.call_steps.specs.Work.{Work, Asks, Ends}
 use Rattle.call_steps.specs.Steps.{with_accepted, with_inputs}
 use Rattle.command_words.specs.Pairs.{Pair}
+use Rattle.bus_arbiter.specs.declared.errors.BusError.TheVariants as bus
 
 -- what was read so far: the plan, and the objects and inputs of its cores
 pub record Read : Type 0 where

@@ -7,3 +7,4 @@ pub mod TracedInTrees
 pub mod TracedText
 pub mod Growing
 pub mod Ran
+pub mod Prelude

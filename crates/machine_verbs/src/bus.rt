@@ -1,16 +1,11 @@
 ghost use Rattle.std.specs.Prelude.{◌≡◌, ◌<◌, ◌≤◌, ◌+◌, [], IfErr, IfOk, IfSome, IsTrue, OnErr, OnOk, false, length, map};
 ghost use Rattle.std.specs.Option.{option_map};
-ghost use Rattle.bus_arbiter.specs.Cores.{traces_to};
-ghost use Rattle.bus_arbiter.specs.Laws.{AllFit, traces_on};
-ghost use Rattle.bus_arbiter.specs.Shares.{share_of};
-ghost use Rattle.bus_arbiter.specs.Turns.{AllLeft};
-ghost use Rattle.command_words.specs.Asks.{bus_asks, bus_named, bus_named_on};
-ghost use Rattle.command_words.specs.Pairs.{pairs_of};
+ghost use Rattle.bus_arbiter.specs.Prelude.{traces_to, AllFit, traces_on, share_of, AllLeft};
+ghost use Rattle.command_words.specs.Prelude.{bus_asks, bus_named, bus_named_on, pairs_of, texts};
 ghost use Rattle.machine_verbs.specs.Bus.{bus_said, bus_work, none_read, with_core, with_cores};
-ghost use Rattle.command_words.specs.Options.{texts};
-ghost use Rattle.call_steps.specs.Reached.{Finds, FindsNone, stage};
+ghost use Rattle.call_steps.specs.Prelude.{Finds, FindsNone, stage};
 ghost use Rattle.machine_verbs.specs.Sharing.{AllBegin, AreRead, PutsShared};
-ghost use Rattle.call_replies.specs.Texts.{said};
+ghost use Rattle.call_replies.specs.Prelude.{said};
 
 use crate::bus_run::put_bus;
 use bus_arbiter::{Bus, BusError, Plan};

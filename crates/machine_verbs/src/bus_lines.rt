@@ -1,14 +1,12 @@
 ghost use Rattle.std.proofs.Common.{refl, ◌∙◌};
 ghost use Rattle.std.specs.Prelude.{◌≡◌, ◌≤◌, ◌++◌, [], codes, decimal, length, true};
-ghost use Rattle.bus_arbiter.specs.Transfers.{moved_by};
-ghost use Rattle.lt_isa.specs.Events.{observed_of};
-ghost use Rattle.run_data.specs.Putting.{PutsText};
-ghost use Rattle.run_data.specs.TraceText.{event_line};
+ghost use Rattle.bus_arbiter.specs.Prelude.{moved_by};
+ghost use Rattle.lt_isa.specs.Prelude.{observed_of};
+ghost use Rattle.run_data.specs.Prelude.{PutsText, event_line};
 ghost use Rattle.machine_verbs.specs.Growing.{Grows-itself, Grows-through};
-ghost use Rattle.call_steps.specs.Showing.{core_line, halt_text, transfer_line};
+ghost use Rattle.call_steps.specs.Prelude.{core_line, halt_text, transfer_line};
 ghost use Rattle.machine_verbs.specs.Watched.{Grows, HoldsLines, HoldsTransfers, TearsTransfer};
-ghost use Rattle.processor.specs.Keeping.{tells-none, tells-then};
-ghost use Rattle.processor.specs.Watching.{TellsMore};
+ghost use Rattle.processor.specs.Prelude.{tells-none, tells-then, TellsMore};
 
 use bus_arbiter::BusWatch;
 use gr_outside::{Sink, SinkFailed};

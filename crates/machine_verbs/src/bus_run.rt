@@ -1,8 +1,7 @@
 ghost use Rattle.std.specs.Prelude.{◌≡◌, ◌≤◌, ◌&&◌, [], IsTrue, is_some, length, true};
-ghost use Rattle.bus_arbiter.specs.Cores.{traces_to};
-ghost use Rattle.bus_arbiter.specs.Turns.{AllLeft};
+ghost use Rattle.bus_arbiter.specs.Prelude.{traces_to, AllLeft};
 ghost use Rattle.machine_verbs.specs.Sharing.{PutsHalts, PutsJoined, PutsShared, halts_of};
-ghost use Rattle.call_replies.specs.Texts.{verdict_status};
+ghost use Rattle.call_replies.specs.Prelude.{verdict_status};
 ghost use Rattle.machine_verbs.specs.Watched.{HoldsLines};
 ghost use Rattle.call_replies.specs.declared.replies.Verdict.TheVariants.{Shared};
 

@@ -1,8 +1,7 @@
 ghost use Rattle.std.specs.Prelude.{◌≡◌, ◌<◌, ◌≤◌, [], length, OnOk};
-ghost use Rattle.path_oram.specs.Settles.{AreLevels};
-ghost use Rattle.run_data.specs.PathText.{levels_line};
-ghost use Rattle.run_data.specs.Putting.{PutsText};
-ghost use Rattle.call_steps.specs.Levels.{PutsBank, PutsLevels};
+ghost use Rattle.path_oram.specs.Prelude.{AreLevels};
+ghost use Rattle.run_data.specs.Prelude.{levels_line, PutsText};
+ghost use Rattle.call_steps.specs.Prelude.{PutsBank, PutsLevels};
 
 use call_steps::oblivious::SeededOram;
 use gr_outside::{Sink, SinkFailed};

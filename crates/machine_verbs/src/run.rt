@@ -1,11 +1,9 @@
 ghost use Rattle.std.specs.Prelude.{◌≡◌, ◌≤◌, IfOk, IfSome};
 ghost use Rattle.std.specs.Option.{option_map};
-ghost use Rattle.lt_isa.specs.Outputs.{outputs};
-ghost use Rattle.lt_isa.specs.Ranges.{IsInRange};
-ghost use Rattle.lt_isa.specs.Start.{FitsObject, wants_of};
-ghost use Rattle.run_data.specs.OutputText.{output_of};
+ghost use Rattle.lt_isa.specs.Prelude.{outputs, IsInRange, FitsObject, wants_of};
+ghost use Rattle.run_data.specs.Prelude.{output_of};
 ghost use Rattle.machine_verbs.specs.Ran.{RanTo};
-ghost use Rattle.command_words.specs.Asks.{run_asks, run_named};
+ghost use Rattle.command_words.specs.Prelude.{run_asks, run_named};
 ghost use Rattle.machine_verbs.specs.Run.{run_work};
 
 use call_replies::replies::{Done, Reply, Verdict};

@@ -1,21 +1,16 @@
 ghost use Rattle.std.specs.Prelude.{◌≡◌, ◌≢◌, ◌≤◌, [], IfOk, IfSome, IsTrue, OnErr, false, length, true};
 ghost use Rattle.std.specs.Option.{option_map};
-ghost use Rattle.banks.specs.Accesses.{accesses_from};
-ghost use Rattle.call_replies.specs.Texts.{comes_to};
-ghost use Rattle.command_words.specs.Asks.{trace_asks, trace_named};
+ghost use Rattle.banks.specs.Prelude.{accesses_from};
+ghost use Rattle.call_replies.specs.Prelude.{comes_to};
+ghost use Rattle.command_words.specs.Prelude.{trace_asks, trace_named};
 ghost use Rattle.machine_verbs.specs.Trace.{trace_work, traces_on};
-ghost use Rattle.call_steps.specs.Reached.{ExplainsRest};
-ghost use Rattle.call_steps.specs.Levels.{AreBehind, MayRun, PutsLast};
+ghost use Rattle.call_steps.specs.Prelude.{ExplainsRest, AreBehind, MayRun, PutsLast, stream_from};
 ghost use Rattle.machine_verbs.specs.Watched.{HoldsLines, PutsShown, PutsTrace, kept};
 ghost use Rattle.machine_verbs.specs.TracedInTrees.{TracedInTrees};
 ghost use Rattle.machine_verbs.specs.TracedText.{IsTextOfTrace};
-ghost use Rattle.lt_isa.specs.Ranges.{IsInRange};
-ghost use Rattle.lt_isa.specs.Start.{FitsObject};
-ghost use Rattle.lt_isa.specs.Trace.{trace_from};
-ghost use Rattle.path_oram.specs.Orams.{paths_ahead};
-ghost use Rattle.processor.specs.ObliviousBanks.{ComeBy};
-ghost use Rattle.processor.specs.Watching.{run_shown};
-ghost use Rattle.call_steps.specs.Seeds.{stream_from};
+ghost use Rattle.lt_isa.specs.Prelude.{IsInRange, FitsObject, trace_from};
+ghost use Rattle.path_oram.specs.Prelude.{paths_ahead};
+ghost use Rattle.processor.specs.Prelude.{ComeBy, run_shown};
 ghost use Rattle.call_replies.specs.declared.replies.Verdict.TheVariants.{Traced};
 
 use crate::levels::put_levels;

@@ -1,10 +1,9 @@
 ghost use Rattle.std.proofs.Common.{refl, ◌∙◌};
 ghost use Rattle.std.specs.Prelude.{◌≡◌, ◌≤◌, [], length, take, true};
 ghost use Rattle.machine_verbs.specs.Growing.{Grows-itself, Grows-through};
-ghost use Rattle.lt_isa.specs.Trace.{Stamped};
+ghost use Rattle.lt_isa.specs.Prelude.{Stamped};
 ghost use Rattle.machine_verbs.specs.Watched.{Grows, HoldsLines, HoldsTold, Tears};
-ghost use Rattle.processor.specs.Keeping.{tells-none, tells-then};
-ghost use Rattle.processor.specs.Watching.{TellsMore};
+ghost use Rattle.processor.specs.Prelude.{tells-none, tells-then, TellsMore};
 
 use gr_outside::Sink;
 use lt_isa::Event;

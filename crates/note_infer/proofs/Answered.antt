@@ -2,20 +2,13 @@
 use Rattle.std.proofs.Common.{◌≡◌, ◌≢◌, ℕ, zero, suc, ◌<◌, ◌≤◌, List, [], length, get_or, ◌⊎◌, inl, inr, Option, Some, None, refl, ap, ◌∙◌, ⊎_elim, arith}
 use Rattle.std.proofs.lemmas.Bool.{cases_eq, cases_lt}
 use Rattle.lt_isa.specs.declared.symbols.Note.{Note}
-use Rattle.lt_isa.specs.Object.{Parts}
-use Rattle.lt_isa.specs.Ranges.{IsInRange}
-use Rattle.lt_isa.specs.Limits.{most_notes}
+use Rattle.lt_isa.specs.Prelude.{Parts, IsInRange, most_notes}
 use Rattle.lt_checker.proofs.AcceptanceLaws.{accepted-or-refused, refused_is_not_accepted}
-use Rattle.trace_patterns.specs.Known.{Known}
-use Rattle.trace_patterns.specs.Carries.{without_notes}
-use Rattle.trace_patterns.specs.Accepts.{Accepts, FirstRefusal}
+use Rattle.trace_patterns.specs.Prelude.{Known, without_notes, Accepts, FirstRefusal}
 use Rattle.trace_patterns.specs.declared.reasons.Reason.{Reason}
 use Rattle.note_infer.specs.declared.faults.InferError.{InferError}
 use Rattle.note_infer.specs.declared.faults.InferError.TheVariants.{Dead, Refused, TooMany, Memory}
-use Rattle.note_infer.specs.LeastNotes.{with_notes}
-use Rattle.note_infer.specs.Inferred.{IsInferred, IsWhyNot, NoNotesWouldDo, IsAnswered}
-use Rattle.note_infer.specs.Growth.{HasLeast}
-use Rattle.note_infer.specs.Noting.{FindsNotes, NothingIsKnown}
+use Rattle.note_infer.specs.Prelude.{with_notes, IsInferred, IsWhyNot, NoNotesWouldDo, IsAnswered, HasLeast, FindsNotes, NothingIsKnown}
 use Rattle.note_infer.proofs.Inferring.{dead_found, all_reached, why_whole, least_found, found_in_range, bare_in_range, would_accept}
 use Rattle.note_infer.proofs.LeastExist.{least_exists}
 use Rattle.note_infer.proofs.NotesExist.{notes_found}

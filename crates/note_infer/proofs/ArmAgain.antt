@@ -8,23 +8,12 @@ use Rattle.std.proofs.lemmas.Bool.{and_parts, ltb-true, eq-eqb, false≢true}
 use Rattle.lt_isa.specs.declared.symbols.Note.{Note}
 use Rattle.lt_isa.specs.declared.instructions.Instr.{Instr}
 use Rattle.lt_isa.specs.declared.instructions.Instr.TheVariants.{Nop, Halt, Li, Alu, Ldb, Stb, Idb, Ldw, Stw, Jmp, Br}
-use Rattle.lt_isa.specs.Object.{Parts, is_ram, is_eram}
-use Rattle.lt_isa.specs.Step.{target_of}
-use Rattle.symbolic_values.specs.Trees.{Value}
+use Rattle.lt_isa.specs.Prelude.{Parts, is_ram, is_eram, target_of}
+use Rattle.symbolic_values.specs.Prelude.{Value}
 use Rattle.trace_patterns.specs.declared.reasons.Reason.{Reason}
-use Rattle.trace_patterns.specs.Patterns.{Shown}
-use Rattle.trace_patterns.specs.Events.{TreeEvent, RamRead, EncRead, Oram}
-use Rattle.trace_patterns.specs.Known.{Known, note_known}
-use Rattle.trace_patterns.specs.SymStates.{SymSlot, AnySlot, RamSlot, EramSlot, OramSlot, Loaded, SymState, tree_held, slot_held, hold_slot, common}
-use Rattle.trace_patterns.specs.Shape.{Arms, shape, has_note_between}
-use Rattle.trace_patterns.specs.Single.{Single, Refuses, Goes, Branches, event, at_tree, stores, if_bound, if_stored, named_block, single}
-use Rattle.trace_patterns.specs.Rules.{note_of_place, claimed_at}
-use Rattle.trace_patterns.specs.Walk.{WalksTo, AtEnd, Onward, Across, CrossesTo, BothArms}
+use Rattle.trace_patterns.specs.Prelude.{Shown, TreeEvent, RamRead, EncRead, Oram, Known, note_known, SymSlot, AnySlot, RamSlot, EramSlot, OramSlot, Loaded, SymState, tree_held, slot_held, hold_slot, common, Arms, shape, has_note_between, Single, Refuses, Goes, Branches, event, at_tree, stores, if_bound, if_stored, named_block, single, note_of_place, claimed_at, WalksTo, AtEnd, Onward, Across, CrossesTo, BothArms, only_goes_on, ram_loaded, eram_loaded, held_behind, without_notes}
 use Rattle.trace_patterns.proofs.Shapes.{shape-arms, shape-region}
-use Rattle.trace_patterns.specs.Carried.{only_goes_on}
-use Rattle.trace_patterns.specs.Carried.{ram_loaded, eram_loaded, held_behind}
-use Rattle.trace_patterns.specs.Carries.{without_notes}
-use Rattle.note_infer.specs.LeastNotes.{with_notes}
+use Rattle.note_infer.specs.Prelude.{with_notes}
 use Rattle.note_infer.proofs.Keeps.{Keeps}
 use Rattle.note_infer.proofs.Lower.{IsBelow, held-below, common-below}
 

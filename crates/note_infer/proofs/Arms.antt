@@ -4,24 +4,17 @@ use Rattle.std.proofs.lemmas.Bool.{cases_eq, cases_lt, false≢true}
 use Rattle.gr_word.specs.declared.operations.Cmp.{Cmp}
 use Rattle.lt_isa.specs.declared.instructions.Instr.{Instr}
 use Rattle.lt_isa.specs.declared.instructions.Instr.TheVariants.{Halt, Jmp, Br}
-use Rattle.lt_isa.specs.Object.{Parts}
-use Rattle.lt_isa.specs.Step.{target_of}
-use Rattle.trace_patterns.specs.Patterns.{Shown}
-use Rattle.trace_patterns.specs.Events.{TreeEvent}
-use Rattle.trace_patterns.specs.SymStates.{SymState}
-use Rattle.trace_patterns.specs.Single.{Single, Refuses, Goes, Branches, single}
-use Rattle.trace_patterns.specs.Walk.{WalksTo, AtEnd, Onward, Across, CrossesTo, BothArms}
+use Rattle.lt_isa.specs.Prelude.{Parts, target_of}
+use Rattle.trace_patterns.specs.Prelude.{Shown, TreeEvent, SymState, Single, Refuses, Goes, Branches, single, WalksTo, AtEnd, Onward, Across, CrossesTo, BothArms, only_goes_on, without_notes, CarriesTo, Arrived, Along, Through, CarriesOver, ByBoth}
 use Rattle.trace_patterns.proofs.Shapes.{IsRegion, shape-arms}
 use Rattle.trace_patterns.proofs.SymStateLaws.{IsSized, single-sized}
 use Rattle.trace_patterns.proofs.Walks.{crosses-sized}
-use Rattle.note_infer.specs.Steps as step
-use Rattle.trace_patterns.specs.Carried.{only_goes_on}
-use Rattle.note_infer.specs.Steps.{LeadsTo}
-use Rattle.trace_patterns.specs.Carries.{without_notes, CarriesTo, Arrived, Along, Through, CarriesOver, ByBoth}
+use Rattle.note_infer.specs.Prelude.{LeadsTo}
 use Rattle.note_infer.proofs.Lower.{below-own}
 use Rattle.trace_patterns.proofs.Carries.{instr-once, offset_once}
 use Rattle.note_infer.proofs.ArmAgain.{shape-renoted, single-again, ends_ahead}
 use Rattle.note_infer.proofs.SameParts.{br_not_jmp, same_jump}
+use Rattle.note_infer.specs.Steps as step
 
 -- what is walked is carried
 mutual

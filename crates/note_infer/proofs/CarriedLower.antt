@@ -1,11 +1,9 @@
 -- Ways from a lower state: what they carry is lower, and they lead to the same places. What is carried is one.
-use Rattle.std.proofs.Common.{◌≡◌, ℕ, ◌-◌, ℤ, List, length, refl, sym, subst}
-use Rattle.lt_isa.specs.Object.{Parts}
-use Rattle.trace_patterns.specs.Known.{Known}
-use Rattle.trace_patterns.specs.SymStates.{SymState, at_entry, known_after}
-use Rattle.trace_patterns.specs.Carried.{known_behind}
-use Rattle.trace_patterns.specs.Carries.{CarriesOver}
-use Rattle.note_infer.specs.Ways.{PublicWay, Next, Skips, Branches, Jumps, Crosses}
+use Rattle.std.proofs.Common.{ℕ, ◌-◌, ℤ, List, length, refl, sym, subst}
+use Rattle.lt_isa.specs.declared.instructions.Instr.{Instr}
+use Rattle.lt_isa.specs.Prelude.{Parts}
+use Rattle.trace_patterns.specs.Prelude.{Known, SymState, at_entry, known_after, known_behind, CarriesOver}
+use Rattle.note_infer.specs.Prelude.{PublicWay, Next, Skips, Branches, Jumps, Crosses}
 use Rattle.trace_patterns.proofs.Carries.{over-with}
 use Rattle.note_infer.proofs.Lower.{IsBelow, IsLower, held-below, known-lower, entry-below, common-below, after-lower}
 
@@ -36,87 +34,76 @@ over-above o depth end p offset s join t high over h =
     (λ x x' y y' g f. common-below x' x y' y g f) depth end p offset s join t high over h in
     record { state = r.state; carried = r.carried; above = r.related }
 
--- The same of ways: from a lower state each way leads to the same place, and carries what is lower.
+-- The same of ways: from a related state each way leads to the same place, and carries what is related.
+record WayBy (R : Known → Known → Type 0) (o : Parts) (crossed : List ℕ) (p : ℕ) (other : Known) (q : ℕ)
+    (next : Known) : Type 0 where
+  known : Known
+  way : PublicWay o crossed p other q known
+  related : R known next
+
+record OverBy (R : Known → Known → Type 0) (o : Parts) (p : ℕ) (offset : ℤ) (other : Known) (join : ℕ)
+    (next : SymState) : Type 0 where
+  state : SymState
+  carried : CarriesOver o 0 (length o.code - 1) p offset (at_entry other) join state
+  related : R (known_after state) (known_after next)
+
+module _ (R : Known → Known → Type 0) (o : Parts)
+    (behind : (k other : Known) (i : Instr) → R other k → R (known_behind other i) (known_behind k i))
+    (over : (k other : Known) (p : ℕ) (offset : ℤ) (join : ℕ) (s : SymState) → R other k
+    → CarriesOver o 0 (length o.code - 1) p offset (at_entry k) join s → OverBy R o p offset other join s) where
+  way-by : (crossed : List ℕ) (p : ℕ) (k : Known) (q : ℕ) (next other : Known)
+      → PublicWay o crossed p k q next → R other k → WayBy R o crossed p other q next
+  way-by crossed p k q next other (Next p' k' q' n' i at goes to inside is) h = record {
+    known = known_behind other i;
+    way = Next p other q (known_behind other i) i at goes to inside refl;
+    related = subst (R (known_behind other i)) (sym is) (behind k other i h);
+  }
+  way-by crossed p k q next other (Skips p' k' q' n' cmp ra rb offset at apart to inside is) h = record {
+    known = other;
+    way = Skips p other q other cmp ra rb offset at apart to inside refl;
+    related = subst (R other) (sym is) h;
+  }
+  way-by crossed p k q next other (Branches p' k' q' n' cmp ra rb offset at apart to inside is) h = record {
+    known = other;
+    way = Branches p other q other cmp ra rb offset at apart to inside refl;
+    related = subst (R other) (sym is) h;
+  }
+  way-by crossed p k q next other (Jumps p' k' q' n' offset at to inside is) h = record {
+    known = other;
+    way = Jumps p other q other offset at to inside refl;
+    related = subst (R other) (sym is) h;
+  }
+  way-by crossed p k q next other (Crosses p' k' q' n' cmp ra rb offset at among joins) h =
+      let m = over k other p offset q joins.state h joins.over in
+      record {
+        known = known_after m.state;
+        way = Crosses p other q (known_after m.state) cmp ra rb offset at among
+            (record { state = m.state; over = m.carried; next_is = refl });
+        related = subst (R (known_after m.state)) (sym joins.next_is) m.related;
+      }
+
+-- from a lower state each way carries what is lower
 pub record WayLower (o : Parts) (crossed : List ℕ) (p : ℕ) (low : Known) (q : ℕ) (high : Known) : Type 0 where
   pub known : Known
   pub way : PublicWay o crossed p low q known
   pub lower : IsLower known high
 
-is_lower_if : (k low high : Known) → high ≡ k → IsLower low k → IsLower low high
-is_lower_if k low high e h = subst (IsLower low) (sym e) h
-
-pub way-lower : (o : Parts) (crossed : List ℕ) (p : ℕ) (k : Known) (q : ℕ) (next low : Known)
-    → PublicWay o crossed p k q next → IsLower low k → WayLower o crossed p low q next
-way-lower o crossed p k q next low (Next p' k' q' n' i at goes to inside is) h = record {
-  known = known_behind low i;
-  way = Next p low q (known_behind low i) i at goes to inside refl;
-  lower = is_lower_if (known_behind k i) _ next is (known-lower low k i h);
-}
-way-lower o crossed p k q next low (Skips p' k' q' n' cmp ra rb offset at apart to inside is) h = record {
-  known = low;
-  way = Skips p low q low cmp ra rb offset at apart to inside refl;
-  lower = is_lower_if k low next is h;
-}
-way-lower o crossed p k q next low (Branches p' k' q' n' cmp ra rb offset at apart to inside is) h = record {
-  known = low;
-  way = Branches p low q low cmp ra rb offset at apart to inside refl;
-  lower = is_lower_if k low next is h;
-}
-way-lower o crossed p k q next low (Jumps p' k' q' n' offset at to inside is) h = record {
-  known = low;
-  way = Jumps p low q low offset at to inside refl;
-  lower = is_lower_if k low next is h;
-}
-way-lower o crossed p k q next low (Crosses p' k' q' n' cmp ra rb offset at among joins) h =
-    let m = over-below o 0 (length o.code - 1) p offset (at_entry k) q joins.state (at_entry low) joins.over
-    (entry-below low k h) in
-    record {
-      known = known_after m.state;
-      way = Crosses p low q (known_after m.state) cmp ra rb offset at among
-          (record { state = m.state; over = m.carried; next_is = refl });
-      lower = is_lower_if (known_after joins.state) _ next joins.next_is (after-lower m.state joins.state m.below);
-    }
-
--- and from a higher state each way leads to the same place, and carries what is higher
+-- and from a higher state what is higher
 pub record WayHigher (o : Parts) (crossed : List ℕ) (p : ℕ) (high : Known) (q : ℕ) (low : Known) : Type 0 where
   pub known : Known
   pub way : PublicWay o crossed p high q known
   pub higher : IsLower low known
 
-is_higher_if : (k low high : Known) → low ≡ k → IsLower k high → IsLower low high
-is_higher_if k low high e h = subst (λ (x : Known). IsLower x high) (sym e) h
-
 pub way-higher : (o : Parts) (crossed : List ℕ) (p : ℕ) (k : Known) (q : ℕ) (next high : Known)
     → PublicWay o crossed p k q next → IsLower k high → WayHigher o crossed p high q next
-way-higher o crossed p k q next high (Next p' k' q' n' i at goes to inside is) h = record {
-  known = known_behind high i;
-  way = Next p high q (known_behind high i) i at goes to inside refl;
-  higher = is_higher_if (known_behind k i) next _ is (known-lower k high i h);
-}
-way-higher o crossed p k q next high (Skips p' k' q' n' cmp ra rb offset at apart to inside is) h = record {
-  known = high;
-  way = Skips p high q high cmp ra rb offset at apart to inside refl;
-  higher = is_higher_if k next high is h;
-}
-way-higher o crossed p k q next high (Branches p' k' q' n' cmp ra rb offset at apart to inside is) h = record {
-  known = high;
-  way = Branches p high q high cmp ra rb offset at apart to inside refl;
-  higher = is_higher_if k next high is h;
-}
-way-higher o crossed p k q next high (Jumps p' k' q' n' offset at to inside is) h = record {
-  known = high;
-  way = Jumps p high q high offset at to inside refl;
-  higher = is_higher_if k next high is h;
-}
-way-higher o crossed p k q next high (Crosses p' k' q' n' cmp ra rb offset at among joins) h =
-    let m = over-above o 0 (length o.code - 1) p offset (at_entry k) q joins.state (at_entry high) joins.over
-    (entry-below k high h) in
-    record {
-      known = known_after m.state;
-      way = Crosses p high q (known_after m.state) cmp ra rb offset at among
-          (record { state = m.state; over = m.carried; next_is = refl });
-      higher = is_higher_if (known_after joins.state) next _ joins.next_is (after-lower joins.state m.state m.above);
-    }
+way-higher o crossed p k q next high way h =
+    let w = way-by (λ x y. IsLower y x) o (λ k high i h. known-lower k high i h)
+    (λ k high p offset join s h over.
+    let m = over-above o 0 (length o.code - 1) p offset (at_entry k) join s (at_entry high) over (entry-below k high h)
+    in
+    record { state = m.state; carried = m.carried; related = after-lower s m.state m.above })
+    crossed p k q next high way h in
+    record { known = w.known; way = w.way; higher = w.related }
 
 -- from any state each way leads to the same place
 pub record WayAny (o : Parts) (crossed : List ℕ) (p : ℕ) (other : Known) (q : ℕ) : Type 0 where
@@ -125,19 +112,11 @@ pub record WayAny (o : Parts) (crossed : List ℕ) (p : ℕ) (other : Known) (q 
 
 pub way-any : (o : Parts) (crossed : List ℕ) (p : ℕ) (k : Known) (q : ℕ) (next other : Known)
     → PublicWay o crossed p k q next → WayAny o crossed p other q
-way-any o crossed p k q next other (Next p' k' q' n' i at goes to inside is) =
-    record { known = known_behind other i; way = Next p other q (known_behind other i) i at goes to inside refl }
-way-any o crossed p k q next other (Skips p' k' q' n' cmp ra rb offset at apart to inside is) =
-    record { known = other; way = Skips p other q other cmp ra rb offset at apart to inside refl }
-way-any o crossed p k q next other (Branches p' k' q' n' cmp ra rb offset at apart to inside is) =
-    record { known = other; way = Branches p other q other cmp ra rb offset at apart to inside refl }
-way-any o crossed p k q next other (Jumps p' k' q' n' offset at to inside is) =
-    record { known = other; way = Jumps p other q other offset at to inside refl }
-way-any o crossed p k q next other (Crosses p' k' q' n' cmp ra rb offset at among joins) =
+way-any o crossed p k q next other way =
+    let w = way-by (λ x y. Unit {0}) o (λ k other i h. tt)
+    (λ k other p offset join s h over.
     let m = over-with o (λ x y. Unit {0}) (λ x y i p' at h. tt) (λ x x' y y' h g. tt) 0 (length o.code - 1) p offset
-    (at_entry k) q joins.state (at_entry other) joins.over tt in
-    record {
-      known = known_after m.state;
-      way = Crosses p other q (known_after m.state) cmp ra rb offset at among
-          (record { state = m.state; over = m.carried; next_is = refl });
-    }
+    (at_entry k) join s (at_entry other) over tt in
+    record { state = m.state; carried = m.carried; related = tt })
+    crossed p k q next other way tt in
+    record { known = w.known; way = w.way }

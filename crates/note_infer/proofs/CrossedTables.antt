@@ -3,8 +3,7 @@ use Rattle.std.proofs.Common.{◌≡◌, ℕ, ◌<◌, ◌≤◌, ◌||◌, Bool
 use Rattle.std.specs.Prelude.{replicate}
 use Rattle.std.proofs.lemmas.Bool.{cases_eq, cases_lt, eq-eqb, ne_eqb}
 use Rattle.std.proofs.lemmas.List.{get_or_past, get_or-replicate, length-replicate}
-use Rattle.note_infer.specs.Ways.{is_crossed}
-use Rattle.note_infer.specs.Crossings.{TellsCrossed}
+use Rattle.note_infer.specs.Prelude.{is_crossed, TellsCrossed}
 
 pub tells_none : (n : ℕ) → TellsCrossed [] (replicate n false)
 tells_none n p =

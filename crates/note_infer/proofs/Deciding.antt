@@ -4,16 +4,12 @@ use Rattle.std.proofs.lemmas.Bool.{cases_eq, cases_lt, false≢true}
 use Rattle.gr_word.specs.declared.operations.Cmp.{Cmp}
 use Rattle.lt_isa.specs.declared.instructions.Instr.{Instr}
 use Rattle.lt_isa.specs.declared.instructions.Instr.TheVariants.{Halt, Jmp, Br}
-use Rattle.lt_isa.specs.Object.{Parts}
+use Rattle.lt_isa.specs.Prelude.{Parts}
 use Rattle.trace_patterns.specs.declared.reasons.Reason.{Reason}
-use Rattle.trace_patterns.specs.Known.{Known}
-use Rattle.trace_patterns.specs.SymStates.{SymState, at_entry, known_after, common}
-use Rattle.trace_patterns.specs.Shape.{RegionShape, BadShape, Arms, shape}
-use Rattle.trace_patterns.specs.Carried.{only_goes_on, held_behind}
-use Rattle.trace_patterns.specs.Carries.{without_notes, CarriesTo, Arrived, Along, Through, CarriesOver, ByBoth, JoinsIn}
+use Rattle.trace_patterns.specs.Prelude.{Known, SymState, at_entry, known_after, common, RegionShape, BadShape, Arms, shape, only_goes_on, held_behind, without_notes, CarriesTo, Arrived, Along, Through, CarriesOver, ByBoth, JoinsIn}
 use Rattle.trace_patterns.proofs.Carries.{instr-once, br_goes_not, offset_once, arms-once, over-once}
 use Rattle.trace_patterns.proofs.Shapes.{IsRegion, shape-arms}
-use Rattle.region_walk.specs.Carrying.{IsCarriedTo}
+use Rattle.region_walk.specs.Prelude.{IsCarriedTo}
 
 -- an instruction by where it leads
 pub data Leads (i : Instr) : Type 0 where

@@ -1,13 +1,9 @@
 -- A place is looked at: what its ways carry is brought to their ends, one after another.
 use Rattle.std.proofs.Common.{◌≡◌, ℕ, ◌+◌, ◌*◌, ◌<◌, ◌≤◌, List, [], ◌∷◌, ◌++◌, length, get_or, set, ◌⊎◌, inl, inr, Option, Some, None, refl, sym, ap, ◌∙◌, subst, ⊎_elim, arith, get_or-set_same, get_or-set_other, length-set}
 use Rattle.std.proofs.lemmas.Bool.{cases_eq}
-use Rattle.lt_isa.specs.Object.{Parts}
-use Rattle.lt_isa.specs.Ranges.{IsInRange}
-use Rattle.trace_patterns.specs.Known.{Known, FitsClaim}
-use Rattle.note_infer.specs.Ways.{PublicWay}
-use Rattle.note_infer.specs.Least.{IsAtLeast, IsFull}
-use Rattle.note_infer.specs.UnderWay.{IsRaisedTo, IsUnderWay}
-use Rattle.note_infer.specs.Brings.{at_places, Brings, Enough, More, all_room, Waits, Looks, IsSoundAt, AllSound}
+use Rattle.lt_isa.specs.Prelude.{Parts, IsInRange}
+use Rattle.trace_patterns.specs.Prelude.{Known, FitsClaim}
+use Rattle.note_infer.specs.Prelude.{PublicWay, IsAtLeast, IsFull, IsRaisedTo, IsUnderWay, at_places, Brings, Enough, More, all_room, Waits, Looks, IsSoundAt, AllSound}
 use Rattle.note_infer.proofs.Lower.{lower-fits, lower-own}
 use Rattle.note_infer.proofs.Tight.{fits-then}
 use Rattle.note_infer.proofs.UnderWay.{under_way-left}

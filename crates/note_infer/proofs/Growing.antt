@@ -2,21 +2,15 @@
 use Rattle.std.proofs.Common.{◌≡◌, ℕ, zero, suc, ◌==◌, ◌||◌, ◌<◌, ◌≤◌, Bool, true, false, List, [], ◌∷◌, length, take, drop, ◌++◌, slice_get, Option, Some, None, ℤ, refl, sym, ap, ◌∙◌, subst, ⊎_elim, arith}
 use Rattle.std.proofs.lemmas.Bool.{cases_eq, eq-eqb, false≢true}
 use Rattle.std.proofs.Math.Seq.{take-append_seam}
-use Rattle.lt_isa.specs.Object.{Parts}
+use Rattle.lt_isa.specs.Prelude.{Parts}
 use Rattle.gr_word.specs.declared.operations.Cmp.{Cmp}
 use Rattle.lt_isa.specs.declared.instructions.Instr.{Instr}
 use Rattle.lt_isa.specs.declared.instructions.Instr.TheVariants.{Br}
-use Rattle.trace_patterns.specs.Known.{Known, is_secret}
-use Rattle.trace_patterns.specs.Carries.{JoinsIn}
+use Rattle.trace_patterns.specs.Prelude.{Known, is_secret, JoinsIn}
 use Rattle.trace_patterns.proofs.Carries.{instr-once, offset_once}
-use Rattle.region_walk.specs.Carrying.{IsCarriedTo}
-use Rattle.note_infer.specs.Ways.{is_crossed}
-use Rattle.note_infer.specs.Least.{MayJoin, HasGrown, NoneYet, Joins}
-use Rattle.note_infer.specs.UnderWay.{one_unless}
-use Rattle.note_infer.specs.Branches.{IsBranchOf, BranchIsAt}
+use Rattle.region_walk.specs.Prelude.{IsCarriedTo}
+use Rattle.note_infer.specs.Prelude.{is_crossed, MayJoin, HasGrown, NoneYet, Joins, one_unless, IsBranchOf, BranchIsAt, at_places, LoopHolds, HasLeast, HasLast, MayJoinTo, IsLowestToJoin, GrowthHolds, places_left}
 use Rattle.note_infer.specs.declared.joining.Branch.{Branch}
-use Rattle.note_infer.specs.Brings.{at_places, LoopHolds}
-use Rattle.note_infer.specs.Growth.{HasLeast, HasLast, MayJoinTo, IsLowestToJoin, GrowthHolds, places_left}
 use Rattle.note_infer.proofs.Turns.{loop_ended}
 
 -- where the search has ended

@@ -7,29 +7,17 @@ use Rattle.std.proofs.lemmas.Bool.{cases_lt, false≢true}
 use Rattle.gr_word.specs.declared.operations.Cmp.{Cmp}
 use Rattle.lt_isa.specs.declared.instructions.Instr.{Instr}
 use Rattle.lt_isa.specs.declared.instructions.Instr.TheVariants.{Jmp, Br}
-use Rattle.lt_isa.specs.Object.{Parts}
-use Rattle.lt_isa.specs.Step.{target_of}
+use Rattle.lt_isa.specs.Prelude.{Parts, target_of}
 use Rattle.trace_patterns.specs.declared.reasons.Reason.{Reason}
-use Rattle.trace_patterns.specs.Patterns.{Shown}
-use Rattle.trace_patterns.specs.Events.{TreeEvent}
-use Rattle.trace_patterns.specs.Known.{Known, start_known, is_secret}
-use Rattle.trace_patterns.specs.SymStates.{SymState, at_entry, known_after}
-use Rattle.trace_patterns.specs.Rules.{Ruling, Refused, Falls, Leaves, Opens, claimed_at, jumped, ruling_at, ruling_of}
-use Rattle.trace_patterns.specs.Visits.{CrossesFrom, VisitedAt, Noted, Unnoted, ComesTo, Starts, FallsTo, JoinsAt, LiesInside}
-use Rattle.trace_patterns.specs.Accepts.{Accepts}
+use Rattle.trace_patterns.specs.Prelude.{Shown, TreeEvent, Known, start_known, is_secret, SymState, at_entry, known_after, Ruling, Refused, Falls, Leaves, Opens, claimed_at, jumped, ruling_at, ruling_of, CrossesFrom, VisitedAt, Noted, Unnoted, ComesTo, Starts, FallsTo, JoinsAt, LiesInside, Accepts, only_goes_on, known_behind, without_notes, CarriesOver}
 use Rattle.trace_patterns.proofs.SymStateLaws.{sized-at_entry}
 use Rattle.trace_patterns.proofs.Walks.{crosses-region}
 use Rattle.trace_patterns.proofs.Notes.{claimed_at-inside}
-use Rattle.lt_checker.specs.ByPlace.{Arrival, Unreached, Here, Inside, reached_at, NoneBelow}
+use Rattle.lt_checker.specs.Prelude.{Arrival, Unreached, Here, Inside, reached_at, NoneBelow}
 use Rattle.lt_checker.proofs.PlaceRelations.{here-comes, comes-here, lies-reached}
 use Rattle.lt_checker.proofs.Refusals.{accepts-none}
 use Rattle.lt_checker.proofs.AcceptanceLaws.{known-once}
-use Rattle.trace_patterns.specs.Carried.{only_goes_on}
-use Rattle.trace_patterns.specs.Carried.{known_behind}
-use Rattle.trace_patterns.specs.Carries.{without_notes, CarriesOver}
-use Rattle.note_infer.specs.Ways.{PublicWay, Next, Skips, Branches, Jumps, Crosses, is_crossed}
-use Rattle.note_infer.specs.Least.{States, IsAtLeast, IsClosed, IsLast}
-use Rattle.note_infer.specs.LeastNotes.{OpensTheSame}
+use Rattle.note_infer.specs.Prelude.{PublicWay, Next, Skips, Branches, Jumps, Crosses, is_crossed, States, IsAtLeast, IsClosed, IsLast, OpensTheSame}
 use Rattle.note_infer.proofs.Lower.{IsLower, lower-fits, fits-lower, lower-own}
 use Rattle.trace_patterns.proofs.Carries.{instr-once, over-once, offset_once}
 use Rattle.note_infer.proofs.CarriedLower.{way-any}

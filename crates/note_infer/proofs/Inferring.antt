@@ -1,32 +1,19 @@
 -- What is inferred: why no notes are found, and what those that are found do.
 use Rattle.std.proofs.Common.{◌≡◌, ℕ, ◌<◌, ◌≤◌, Bool, List, [], ◌∷◌, ◌++◌, length, get_or, Option, Some, None, refl, sym, ◌∙◌, subst, arith}
 use Rattle.std.proofs.lemmas.Option.{slice_get_within}
-use Rattle.gr_base.specs.Lists.{EachAfter}
+use Rattle.gr_base.specs.Prelude.{EachAfter}
 use Rattle.lt_isa.specs.declared.symbols.Note.{Note}
 use Rattle.lt_isa.specs.declared.instructions.Instr.TheVariants.{Jmp, Br}
-use Rattle.lt_isa.specs.Object.{Parts}
-use Rattle.lt_isa.specs.Ranges.{IsInRange, NoteFits, next_place}
-use Rattle.lt_isa.specs.Limits.{most_notes}
-use Rattle.trace_patterns.specs.Known.{Known}
-use Rattle.trace_patterns.specs.Rules.{claimed_at}
-use Rattle.trace_patterns.specs.Carried.{known_behind}
-use Rattle.trace_patterns.specs.Carries.{without_notes}
-use Rattle.trace_patterns.specs.Accepts.{Accepts, FirstRefusal}
+use Rattle.lt_isa.specs.Prelude.{Parts, IsInRange, NoteFits, next_place, most_notes}
+use Rattle.trace_patterns.specs.Prelude.{Known, claimed_at, known_behind, without_notes, Accepts, FirstRefusal}
 use Rattle.note_infer.specs.declared.faults.InferError.{InferError}
 use Rattle.note_infer.specs.declared.faults.InferError.TheVariants.{Dead, Refused, TooMany, Memory}
-use Rattle.note_infer.specs.Steps.{LeadsTo, Onward, Past, Branched, Jumped, IsReachable, AtStart, Behind, IsDead, AllReachable}
-use Rattle.note_infer.specs.Ways.{Next, Skips, Branches, Jumps}
-use Rattle.note_infer.specs.Least.{States, IsLeast}
-use Rattle.note_infer.specs.LeastNotes.{with_notes, IsTarget, OfJump, OfBranch, StandAtTargets}
+use Rattle.note_infer.specs.Prelude.{LeadsTo, Onward, Past, Branched, Jumped, IsReachable, AtStart, Behind, IsDead, AllReachable, Next, Skips, Branches, Jumps, States, IsLeast, with_notes, IsTarget, OfJump, OfBranch, StandAtTargets, HasLeastNotes, IsWhyNot, WouldDo, NoNotesWouldDo, at_places, HasLeast, HasLast, IsTargetOf, ByJump, ByBranch, claims_at, NothingIsKnown, MarksBelow, NotesBelow, FindsNotes, WhyNoNotes, TellsRefusal}
 use Rattle.lt_checker.specs.declared.checks.CheckError.{CheckError}
-use Rattle.lt_checker.specs.declared.checks.CheckError.TheVariants as check
-use Rattle.lt_checker.specs.Answers.{IsRefusalOf}
-use Rattle.note_infer.specs.Inferred.{HasLeastNotes, IsWhyNot, WouldDo, NoNotesWouldDo}
-use Rattle.note_infer.specs.Brings.{at_places}
-use Rattle.note_infer.specs.Growth.{HasLeast, HasLast}
-use Rattle.note_infer.specs.Noting.{IsTargetOf, ByJump, ByBranch, claims_at, NothingIsKnown, MarksBelow, NotesBelow, FindsNotes, WhyNoNotes, TellsRefusal}
+use Rattle.lt_checker.specs.Prelude.{IsRefusalOf}
 use Rattle.note_infer.proofs.LeastAccepted.{reachable_renoted, least_are_accepted}
 use Rattle.note_infer.proofs.Once.{least-same, last-once}
+use Rattle.lt_checker.specs.declared.checks.CheckError.TheVariants as check
 
 -- where no branch is crossed something is known at each place to which steps lead
 known_at : (o : Parts) (states : States) (p : ℕ) → IsLeast o [] states → IsReachable o p

@@ -9,13 +9,11 @@ use Rattle.std.proofs.lemmas.List.Elements.{All-contains, All-nil, All-cons, All
 use Rattle.std.proofs.lemmas.Bool.{cases_eq}
 use Rattle.std.proofs.lemmas.Option.{slice_get_within}
 use Rattle.lt_isa.specs.declared.instructions.Instr.TheVariants.{Br}
-use Rattle.lt_isa.specs.Object.{Parts}
-use Rattle.trace_patterns.specs.Known.{Known, start_known}
-use Rattle.note_infer.specs.Least.{MayJoin}
-use Rattle.note_infer.specs.Brings.{at_places, Waits, Looks}
-use Rattle.note_infer.specs.Growth.{MayJoinTo, IsLowestToJoin}
-use Rattle.note_infer.specs.Kept.{ListsJoiners, ListsOthers}
+use Rattle.lt_isa.specs.Prelude.{Parts}
+use Rattle.trace_patterns.specs.Prelude.{Known, start_known}
+use Rattle.note_infer.specs.Prelude.{MayJoin, at_places, Waits, Looks, MayJoinTo, IsLowestToJoin, ListsJoiners, ListsOthers}
 use Rattle.note_infer.proofs.Brought.{waits-last}
+use Rattle.note_infer.proofs.SameParts.{joins_by}
 
 -- one place more in a list, and one taken
 contains_first : (x : ℕ) (xs : List ℕ) → Contains (x ∷ xs) x
@@ -50,20 +48,8 @@ taken_shorter old new place moved = omega (arith, length_permutation old (place 
 may_join_as : (o : Parts) (crossed : List ℕ) (before after : List (Option Known)) (q : ℕ)
     → at_places after q ≡ at_places before q → MayJoin o crossed (at_places after) q
     → MayJoin o crossed (at_places before) q
-may_join_as o crossed before after q e h = record {
-  known = h.known;
-  reached = sym e ∙ h.reached;
-  cmp = h.cmp;
-  ra = h.ra;
-  rb = h.rb;
-  offset = h.offset;
-  branch = h.branch;
-  apart = h.apart;
-  secret = h.secret;
-  join = h.join;
-  next = h.next;
-  shaped = h.shaped;
-}
+may_join_as o crossed before after q e h =
+    joins_by o crossed (at_places after) (at_places before) q h (sym e ∙ h.reached)
 
 -- one place is looked at, whose branch was listed before if it may join
 pub listed_turn : (o : Parts) (crossed : List ℕ) (states : List (Option Known)) (stack : List ℕ) (place : ℕ)
@@ -134,11 +120,6 @@ module _ (o : Parts) (crossed : List ℕ) (states : List (Option Known)) (old ne
         (λ (c : Contains new q). inl c)
         (taken_cases old new place q moved (contained q h));
   }
-
-pub past_stays : (o : Parts) (crossed : List ℕ) (states : List (Option Known)) (place : ℕ) → length o.code ≤ place
-    → ¬ MayJoin o crossed (at_places states) place
-past_stays o crossed states place le h =
-    omega (arith, le, slice_get_within o.code place (Br h.cmp h.ra h.rb h.offset) h.branch)
 
 pub none_listed : (o : Parts) (crossed : List ℕ) (states : List (Option Known)) (joiners : List ℕ)
     → ListsJoiners o crossed states [] joiners → joiners ≡ [] → (p : ℕ) → ¬ MayJoin o crossed (at_places states) p

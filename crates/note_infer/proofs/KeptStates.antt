@@ -5,17 +5,9 @@ use Rattle.std.specs.List.{Contains}
 use Rattle.std.proofs.lemmas.Bool.{cases_lt, cases_eq}
 use Rattle.std.proofs.lemmas.Option.{slice_get_within}
 use Rattle.lt_isa.specs.declared.instructions.Instr.TheVariants.{Jmp, Br}
-use Rattle.lt_isa.specs.Object.{Parts}
-use Rattle.trace_patterns.specs.Known.{Known, start_known}
-use Rattle.trace_patterns.specs.SymStates.{at_entry}
-use Rattle.trace_patterns.specs.Carries.{JoinsIn}
-use Rattle.note_infer.specs.Ways.{PublicWay}
-use Rattle.note_infer.specs.Least.{IsAtLeast, MayJoin}
-use Rattle.note_infer.specs.UnderWay.{IsUnderWay}
-use Rattle.note_infer.specs.Brings.{at_places, Waits, LoopHolds}
-use Rattle.note_infer.specs.Growth.{HasLeast}
-use Rattle.note_infer.specs.Noting.{IsTargetOf, ByJump, ByBranch}
-use Rattle.note_infer.specs.Kept.{TellsOrigins, IsApart, IsAwaiting, IsWithout, ListsJoiners, ListsOthers}
+use Rattle.lt_isa.specs.Prelude.{Parts}
+use Rattle.trace_patterns.specs.Prelude.{Known, start_known, at_entry, JoinsIn}
+use Rattle.note_infer.specs.Prelude.{PublicWay, IsAtLeast, MayJoin, IsUnderWay, at_places, Waits, LoopHolds, HasLeast, IsTargetOf, ByJump, ByBranch, TellsOrigins, IsApart, IsAwaiting, IsWithout, ListsJoiners, ListsOthers}
 use Rattle.note_infer.proofs.SameParts.{none_not}
 use Rattle.note_infer.proofs.RegionWays.{crossed_more, way_fewer, region_at, ways_inside}
 use Rattle.note_infer.proofs.LeastOutside.{least_within}

@@ -6,25 +6,11 @@ use Rattle.gr_word.specs.declared.operations.Cmp.{Cmp}
 use Rattle.lt_isa.specs.declared.symbols.Note.{Note}
 use Rattle.lt_isa.specs.declared.instructions.Instr.{Instr}
 use Rattle.lt_isa.specs.declared.instructions.Instr.TheVariants.{Halt, Jmp, Br}
-use Rattle.lt_isa.specs.Object.{Parts}
-use Rattle.lt_isa.specs.Step.{target_of}
+use Rattle.lt_isa.specs.Prelude.{Parts, target_of}
 use Rattle.trace_patterns.specs.declared.reasons.Reason.{Reason}
-use Rattle.trace_patterns.specs.Patterns.{Shown}
-use Rattle.trace_patterns.specs.Events.{TreeEvent}
-use Rattle.trace_patterns.specs.Known.{Known, start_known, is_secret, FitsClaim}
-use Rattle.trace_patterns.specs.SymStates.{SymState, at_entry, known_after}
-use Rattle.trace_patterns.specs.Rules.{Ruling, Refused, Falls, Leaves, Opens, claimed_at, jumped, ruling_at, ruling_of, ruling_if}
-use Rattle.trace_patterns.specs.Visits.{CrossesFrom, VisitedAt, Noted, Unnoted, ComesTo, Starts, FallsTo, JoinsAt, IsVisited, LiesInside}
-use Rattle.trace_patterns.specs.Accepts.{Accepts, RegionIsCrossed}
+use Rattle.trace_patterns.specs.Prelude.{Shown, TreeEvent, Known, start_known, is_secret, FitsClaim, SymState, at_entry, known_after, Ruling, Refused, Falls, Leaves, Opens, claimed_at, jumped, ruling_at, ruling_of, ruling_if, CrossesFrom, VisitedAt, Noted, Unnoted, ComesTo, Starts, FallsTo, JoinsAt, IsVisited, LiesInside, Accepts, RegionIsCrossed, only_goes_on, known_behind, without_notes}
 use Rattle.trace_patterns.proofs.SymStateLaws.{sized-at_entry}
-use Rattle.note_infer.specs.Steps as step
-use Rattle.trace_patterns.specs.Carried.{only_goes_on}
-use Rattle.note_infer.specs.Steps.{LeadsTo, IsReachable, AllReachable, AtStart, Behind}
-use Rattle.trace_patterns.specs.Carried.{known_behind}
-use Rattle.trace_patterns.specs.Carries.{without_notes}
-use Rattle.note_infer.specs.Ways.{PublicWay, Next, Skips, Branches, Jumps, Crosses, is_crossed}
-use Rattle.note_infer.specs.Least.{States, IsAtLeast, IsLast}
-use Rattle.note_infer.specs.LeastNotes.{with_notes, OpensTheSame, IsTarget, OfJump, OfBranch, StandAtTargets, LeastAreAccepted}
+use Rattle.note_infer.specs.Prelude.{LeadsTo, IsReachable, AllReachable, AtStart, Behind, PublicWay, Next, Skips, Branches, Jumps, Crosses, is_crossed, States, IsAtLeast, IsLast, with_notes, OpensTheSame, IsTarget, OfJump, OfBranch, StandAtTargets, LeastAreAccepted}
 use Rattle.note_infer.proofs.Lower.{lower-fits, lower-then, entry-below}
 use Rattle.trace_patterns.proofs.Carries.{instr-once, offset_once}
 use Rattle.note_infer.proofs.CarriedLower.{way-any}
@@ -37,6 +23,7 @@ use Rattle.note_infer.proofs.High.{in-code, public-branch, plain-falls, jump-goe
 use Rattle.note_infer.proofs.Sources.{leads-renoted}
 use Rattle.note_infer.proofs.Standing.{joins_there, no_target, target-told, noted-states, higher, Outer, outer, ends, inner-unreached, FromBefore, from-before, Standing, Arriving, secret-crossed, crossed-secret, visited-stands, comes-arrives}
 use Rattle.note_infer.proofs.SameParts.{known_once}
+use Rattle.note_infer.specs.Steps as step
 
 module _ (b : Parts) (notes : List Note) (accepts : Accepts (with_notes b notes)) (crossed : List ℕ) (states : States)
     (last : IsLast (without_notes b) crossed states) (same : OpensTheSame (with_notes b notes) crossed states)
@@ -44,9 +31,6 @@ module _ (b : Parts) (notes : List Note) (accepts : Accepts (with_notes b notes)
   -- the facts about this object, by short names
   Stands : ℕ → Known → Type 0
   Stands p k = Standing b notes accepts crossed states last same some stand p k
-
-  OuterAt : ℕ → Known → Type 0
-  OuterAt p m = Outer b notes accepts crossed states last same some stand p m
 
   known_at : (p : ℕ) (m : Known) → states p ≡ Some m
       → KnownHigher (with_notes b notes) accepts crossed states last same some p m

@@ -6,15 +6,9 @@ use Rattle.std.proofs.lemmas.List.{get_or_past, get_or-replicate, length-replica
 use Rattle.std.proofs.lemmas.Option.{slice_get_within, slice_get-get_or}
 use Rattle.lt_isa.specs.declared.instructions.Instr.{Instr}
 use Rattle.lt_isa.specs.declared.instructions.Instr.TheVariants.{Nop, Br}
-use Rattle.lt_isa.specs.Object.{Parts}
-use Rattle.lt_isa.specs.Ranges.{IsInRange}
-use Rattle.trace_patterns.specs.Known.{Known, is_secret, start_known}
-use Rattle.trace_patterns.specs.Carries.{JoinsIn}
-use Rattle.note_infer.specs.Ways.{is_crossed}
-use Rattle.note_infer.specs.Least.{MayJoin, HasGrown, NoneYet, Joins}
-use Rattle.note_infer.specs.Brings.{at_places, LoopHolds, work_left}
-use Rattle.note_infer.specs.Branches.{BranchIsAt}
-use Rattle.note_infer.specs.Growth.{HasLeast, HasLast, places_left}
+use Rattle.lt_isa.specs.Prelude.{Parts, IsInRange}
+use Rattle.trace_patterns.specs.Prelude.{Known, is_secret, start_known, JoinsIn}
+use Rattle.note_infer.specs.Prelude.{is_crossed, MayJoin, HasGrown, NoneYet, Joins, at_places, LoopHolds, work_left, BranchIsAt, HasLeast, HasLast, places_left}
 use Rattle.note_infer.specs.declared.joining.Branch.{Branch}
 use Rattle.note_infer.proofs.Turns.{loop_begun, loop_turn, loop_shorter, loop_place}
 use Rattle.note_infer.proofs.Growing.{least_ended, left_less, crossed_stays, unreached_stays, public_stays, unshaped_stays, carried_joins, other_stays}

@@ -8,17 +8,11 @@ use Rattle.std.proofs.lemmas.Bool.{cases_lt, cases_eq, lt-ltb, le-ltb, eq-eqb, f
 use Rattle.gr_word.specs.declared.operations.Cmp.{Cmp}
 use Rattle.lt_isa.specs.declared.instructions.Instr.{Instr}
 use Rattle.lt_isa.specs.declared.instructions.Instr.TheVariants.{Idb, Br}
-use Rattle.lt_isa.specs.Object.{Parts}
-use Rattle.lt_isa.specs.Step.{target_of}
-use Rattle.trace_patterns.specs.Known.{Known, bank_known, start_known, FitsClaim}
-use Rattle.trace_patterns.specs.SymStates.{SymState, at_entry, known_after}
-use Rattle.trace_patterns.specs.Carried.{known_behind}
-use Rattle.trace_patterns.specs.Carries.{CarriesOver, JoinsIn}
+use Rattle.lt_isa.specs.Prelude.{Parts, target_of}
+use Rattle.trace_patterns.specs.Prelude.{Known, bank_known, start_known, FitsClaim, SymState, at_entry, known_after, known_behind, CarriesOver, JoinsIn}
 use Rattle.trace_patterns.proofs.Carries.{over-with}
 use Rattle.trace_patterns.proofs.SymStateLaws.{sized-at_entry}
-use Rattle.note_infer.specs.Ways.{is_crossed, PublicWay, Next, Skips, Branches, Jumps, Crosses}
-use Rattle.note_infer.specs.Least.{States, IsAtLeast, IsFull, IsClosed, IsLeast}
-use Rattle.note_infer.specs.Noting.{IsTargetOf}
+use Rattle.note_infer.specs.Prelude.{is_crossed, PublicWay, Next, Skips, Branches, Jumps, Crosses, States, IsAtLeast, IsFull, IsClosed, IsLeast, IsTargetOf}
 use Rattle.note_infer.proofs.Lower.{fits-lower, lower-fits}
 use Rattle.note_infer.proofs.CarriedLower.{way-higher}
 use Rattle.note_infer.proofs.Ruled.{start-full}

@@ -5,26 +5,17 @@ use Rattle.std.proofs.lemmas.Bool.{false≢true, cases_eq}
 use Rattle.gr_word.specs.declared.operations.Cmp.{Cmp}
 use Rattle.lt_isa.specs.declared.instructions.Instr.{Instr}
 use Rattle.lt_isa.specs.declared.instructions.Instr.TheVariants.{Halt, Jmp, Br}
-use Rattle.lt_isa.specs.Object.{Parts}
-use Rattle.lt_isa.specs.Step.{target_of}
-use Rattle.trace_patterns.specs.Known.{Known}
-use Rattle.trace_patterns.specs.Carried.{only_goes_on}
-use Rattle.trace_patterns.specs.Carried.{known_behind}
-use Rattle.trace_patterns.specs.Carries.{JoinsIn}
-use Rattle.trace_patterns.specs.SymStates.{at_entry, known_after}
-use Rattle.note_infer.specs.Ways.{is_crossed, PublicWay, Next, Skips, Branches, Jumps, Crosses}
-use Rattle.note_infer.specs.Least.{IsAtLeast, IsFull}
-use Rattle.note_infer.specs.Brings.{at_places, Enough, More, BringsInside, InCode, Outside, AllFull, Waits, Looks}
-use Rattle.note_infer.specs.UnderWay.{IsRaisedTo}
-use Rattle.region_walk.specs.NextSteps.{IsNextStep, BranchStands}
-use Rattle.region_walk.specs.declared.next_steps.NextStep.TheVariants as kind
-use Rattle.region_walk.specs.Carrying.{IsCarriedTo}
+use Rattle.lt_isa.specs.Prelude.{Parts, target_of}
+use Rattle.trace_patterns.specs.Prelude.{Known, only_goes_on, known_behind, JoinsIn, at_entry, known_after}
+use Rattle.note_infer.specs.Prelude.{is_crossed, PublicWay, Next, Skips, Branches, Jumps, Crosses, IsAtLeast, IsFull, at_places, Enough, More, BringsInside, InCode, Outside, AllFull, Waits, Looks, IsRaisedTo}
+use Rattle.region_walk.specs.Prelude.{IsNextStep, BranchStands, IsCarriedTo}
 use Rattle.note_infer.proofs.UnderWay.{under_way-left}
 use Rattle.note_infer.proofs.Lower.{lower-own, lower-fits, known-lower, entry-below, after-lower}
 use Rattle.note_infer.proofs.CarriedLower.{over-below}
 use Rattle.trace_patterns.proofs.Carries.{instr-once, offset_once, over-once}
 use Rattle.note_infer.proofs.Following.{brings-there, brings-keeps, brings-size, Follows, Nowhere, Further, looked}
 use Rattle.note_infer.proofs.SameParts.{same_jump}
+use Rattle.region_walk.specs.declared.next_steps.NextStep.TheVariants as kind
 
 -- the state at a place has its registers and slots, if there is one
 pub full_at : (states : List (Option Known)) (place : ℕ) → AllFull states → IfSome (get_or states place None) IsFull
@@ -189,6 +180,23 @@ module _ (o : Parts) (crossed : List ℕ) (place : ℕ) (k : Known) (before : Li
       by same q next (Crosses p' k' q' n' d sa sb x c among joins) = absurd (false≢true (sym apart ∙ among))
 
   -- a branch that is crossed leads only to its join
+  ways-cross : (cmp : Cmp) (ra rb : ℕ) (offset : ℤ) (P : ℕ → Known → Type 0)
+      → slice_get o.code place ≡ Some (Br cmp ra rb offset) → is_crossed crossed place ≡ true
+      → ((q : ℕ) (n : Known) → JoinsIn o place offset k q n → P q n)
+      → (q : ℕ) (n : Known) → PublicWay o crossed place k q n → P q n
+  ways-cross cmp ra rb offset P code among joining q n (Next p' k' q' n' j c g to inside is) =
+      br_not cmp ra rb offset j (instr-once o place j (Br cmp ra rb offset) c code) g
+  ways-cross cmp ra rb offset P code among joining q n (Skips p' k' q' n' d sa sb x c apart to inside is) =
+      absurd (false≢true (sym apart ∙ among))
+  ways-cross cmp ra rb offset P code among joining q n (Branches p' k' q' n' d sa sb x c apart to inside is) =
+      absurd (false≢true (sym apart ∙ among))
+  ways-cross cmp ra rb offset P code among joining q n (Jumps p' k' q' n' x c to inside is) =
+      absurd (let f = instr-once o place (Br cmp ra rb offset) (Jmp x) code c in cc)
+  ways-cross cmp ra rb offset P code among joining q n (Crosses p' k' q' n' d sa sb x c among' j) =
+      let e : x ≡ offset = offset_once d cmp sa sb ra rb x offset
+      (instr-once o place (Br d sa sb x) (Br cmp ra rb offset) c code) in
+      joining q n (subst (λ (z : ℤ). JoinsIn o place z k q n) e j)
+
   pub looks_over : (cmp : Cmp) (ra rb : ℕ) (offset : ℤ) (join : ℕ) (next : Known) (after : List (Option Known))
       (rest : List ℕ) → slice_get o.code place ≡ Some (Br cmp ra rb offset) → is_crossed crossed place ≡ true
       → JoinsIn o place offset k join next → IsFull next → BringsInside before stack join next after rest
@@ -197,19 +205,11 @@ module _ (o : Parts) (crossed : List ℕ) (place : ℕ) (k : Known) (before : Li
   looks_over cmp ra rb offset join next after rest code among joins next_full brings inside =
       looked o crossed place k before stack own full after rest
       (follow before stack join next after rest Nowhere refl
-      (λ within. Crosses place k join next cmp ra rb offset code among joins) next_full brings) here at by
+      (λ within. Crosses place k join next cmp ra rb offset code among joins) next_full brings) here at
+      (ways-cross cmp ra rb offset (IsAtLeast (at_places after)) code among by)
     where
-      by : (q : ℕ) (n : Known) → PublicWay o crossed place k q n → IsAtLeast (at_places after) q n
-      by q n (Next p' k' q' n' j c g to inside' is) =
-          br_not cmp ra rb offset j (instr-once o place j (Br cmp ra rb offset) c code) g
-      by q n (Skips p' k' q' n' d sa sb x c apart to inside' is) = absurd (false≢true (sym apart ∙ among))
-      by q n (Branches p' k' q' n' d sa sb x c apart to inside' is) = absurd (false≢true (sym apart ∙ among))
-      by q n (Jumps p' k' q' n' x c to inside' is) =
-          absurd (let f = instr-once o place (Br cmp ra rb offset) (Jmp x) code c in cc)
-      by q n (Crosses p' k' q' n' d sa sb x c among' j) =
-          let e : x ≡ offset = offset_once d cmp sa sb ra rb x offset
-          (instr-once o place (Br d sa sb x) (Br cmp ra rb offset) c code) in
-          let there' = subst (λ (z : ℤ). JoinsIn o place z k q n) e j in
+      by : (q : ℕ) (n : Known) → JoinsIn o place offset k q n → IsAtLeast (at_places after) q n
+      by q n there' =
           let same = over-once o 0 (length o.code - 1) place offset (at_entry k) q join there'.state joins.state
           there'.over joins.over in
           let known : n ≡ next = there'.next_is ∙ ap known_after same.1 ∙ sym joins.next_is in
@@ -223,19 +223,8 @@ module _ (o : Parts) (crossed : List ℕ) (place : ℕ) (k : Known) (before : Li
       → Looks o crossed place before stack before stack
   unfolding Followed
   looks_nowhere cmp ra rb offset code among none =
-      looked o crossed place k before stack own full before stack Nowhere here at by
-    where
-      by : (q : ℕ) (n : Known) → PublicWay o crossed place k q n → IsAtLeast (at_places before) q n
-      by q n (Next p' k' q' n' j c g to inside' is) =
-          br_not cmp ra rb offset j (instr-once o place j (Br cmp ra rb offset) c code) g
-      by q n (Skips p' k' q' n' d sa sb x c apart to inside' is) = absurd (false≢true (sym apart ∙ among))
-      by q n (Branches p' k' q' n' d sa sb x c apart to inside' is) = absurd (false≢true (sym apart ∙ among))
-      by q n (Jumps p' k' q' n' x c to inside' is) =
-          absurd (let f = instr-once o place (Br cmp ra rb offset) (Jmp x) code c in cc)
-      by q n (Crosses p' k' q' n' d sa sb x c among' j) =
-          let e : x ≡ offset = offset_once d cmp sa sb ra rb x offset
-          (instr-once o place (Br d sa sb x) (Br cmp ra rb offset) c code) in
-          absurd (none q n (subst (λ (z : ℤ). JoinsIn o place z k q n) e j))
+      looked o crossed place k before stack own full before stack Nowhere here at
+      (ways-cross cmp ra rb offset (IsAtLeast (at_places before)) code among (λ q n joins. absurd (none q n joins)))
 
 -- the state after an instruction has its registers and slots
 pub full_behind : (k : Known) (i : Instr) → IsFull k → IsFull (known_behind k i)

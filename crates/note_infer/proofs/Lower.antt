@@ -7,14 +7,11 @@ use Rattle.std.proofs.Math.ListN.{length-map}
 use Rattle.gr_word.specs.declared.operations.Op.{Op}
 use Rattle.lt_isa.specs.declared.instructions.Instr.{Instr}
 use Rattle.lt_isa.specs.declared.instructions.Instr.TheVariants.{Nop, Halt, Li, Alu, Ldb, Stb, Idb, Ldw, Stw, Jmp, Br}
-use Rattle.lt_isa.specs.Object.{Parts, is_ram, is_eram}
-use Rattle.symbolic_values.specs.Trees.{Value, Reg}
-use Rattle.trace_patterns.specs.Known.{Known, is_secret, bank_known, set_secret, set_bank, FitsClaim}
-use Rattle.trace_patterns.specs.SymStates.{SymSlot, AnySlot, RamSlot, EramSlot, OramSlot, SymState, tree_held, slot_held, hold_tree, hold_slot, entry_slot, at_entry, known_after, slot_bank, common_tree, common_slot, common}
-use Rattle.trace_patterns.specs.Single.{applied_trees, block_held, word_held}
+use Rattle.lt_isa.specs.Prelude.{Parts, is_ram, is_eram}
+use Rattle.symbolic_values.specs.Prelude.{Value, Reg}
+use Rattle.trace_patterns.specs.Prelude.{Known, is_secret, bank_known, set_secret, set_bank, FitsClaim, SymSlot, AnySlot, RamSlot, EramSlot, OramSlot, SymState, tree_held, slot_held, hold_tree, hold_slot, entry_slot, at_entry, known_after, slot_bank, common_tree, common_slot, common, applied_trees, block_held, word_held, slot_shows, slot_is_ram, known_behind, slot_loaded, held_behind}
 use Rattle.trace_patterns.proofs.SymStateLaws.{IsSized, tree-at_entry, slot-at_entry, sized-at_entry, secret-after, bank-after, none_left, none_right, any_left, any_right, tree-common, slot-common, sized-common}
-use Rattle.trace_patterns.specs.Carried.{slot_shows, slot_is_ram, known_behind, slot_loaded, held_behind}
-use Rattle.note_infer.specs.Least.{IsFull}
+use Rattle.note_infer.specs.Prelude.{IsFull}
 use Rattle.note_infer.proofs.Keeps.{Keeps, keeps-then, keeps-made, keeps-both, keeps-set}
 
 -- a state of a region is below another: it holds each tree and each slot that the other holds, and may hold more
@@ -177,12 +174,7 @@ held-below o low high (Idb rd k) h =
 held-below o low high (Ldw rd k ro) h =
     below-tree low high rd _ _ h
     (keeps-both (word_held o) AnySlot None None (any_word o) (word_none o) _ _ _ _ (h.slots k) (h.trees ro))
-held-below o low high Nop h = h
-held-below o low high Halt h = h
-held-below o low high (Stb k) h = h
-held-below o low high (Stw rs k ro) h = h
-held-below o low high (Jmp offset) h = h
-held-below o low high (Br cmp ra rb offset) h = h
+held-below o low high other h = h
 
 pub known-lower : (low high : Known) (i : Instr) → IsLower low high → IsLower (known_behind low i) (known_behind high i)
 unfolding known_behind
@@ -197,12 +189,7 @@ known-lower low high (Ldw rd slot ro) h =
     lower-label low high rd _ _ h
     (keeps-both (λ b x. not (slot_is_ram b) || x) None true true (λ y. refl) (λ b. or_true (not (slot_is_ram b)))
     _ _ _ _ (h.banks slot) (h.labels ro))
-known-lower low high Nop h = h
-known-lower low high Halt h = h
-known-lower low high (Stb slot) h = h
-known-lower low high (Stw rs slot ro) h = h
-known-lower low high (Jmp offset) h = h
-known-lower low high (Br cmp ra rb offset) h = h
+known-lower low high other h = h
 
 -- at the entry of a region, where two states are joined, and back in public code
 pub entry-below : (low high : Known) → IsLower low high → IsBelow (at_entry low) (at_entry high)

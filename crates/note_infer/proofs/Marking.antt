@@ -6,15 +6,10 @@ use Rattle.std.proofs.lemmas.List.{get_or_past, get_or-replicate, length-replica
 use Rattle.gr_word.specs.declared.operations.Cmp.{Cmp}
 use Rattle.lt_isa.specs.declared.instructions.Instr.{Instr}
 use Rattle.lt_isa.specs.declared.instructions.Instr.TheVariants.{Halt, Jmp, Br}
-use Rattle.lt_isa.specs.Object.{Parts}
-use Rattle.lt_isa.specs.Step.{target_of}
-use Rattle.trace_patterns.specs.Known.{Known}
-use Rattle.trace_patterns.specs.Carried.{only_goes_on}
+use Rattle.lt_isa.specs.Prelude.{Parts, target_of}
+use Rattle.trace_patterns.specs.Prelude.{Known, only_goes_on}
 use Rattle.trace_patterns.proofs.Carries.{instr-once, offset_once}
-use Rattle.note_infer.specs.Ways.{is_crossed}
-use Rattle.note_infer.specs.Least.{States}
-use Rattle.note_infer.specs.LeastNotes.{IsTarget, OfJump, OfBranch}
-use Rattle.note_infer.specs.Noting.{IsTargetOf, ByJump, ByBranch, is_marked_at, Marks, MarksFrom, MarksBelow}
+use Rattle.note_infer.specs.Prelude.{is_crossed, States, IsTarget, OfJump, OfBranch, IsTargetOf, ByJump, ByBranch, is_marked_at, Marks, MarksFrom, MarksBelow}
 use Rattle.note_infer.proofs.SameParts.{same_jump}
 
 -- one place

@@ -5,9 +5,9 @@ use Rattle.std.specs.List.{range_with_len}
 use Rattle.std.proofs.lemmas.Bool.{cases_lt, and_parts, and_from}
 use Rattle.std.proofs.lemmas.List.{get_or_past}
 use Rattle.std.proofs.lemmas.List.FromFn.{get_or-map-range_with_len, length-map-range_with_len}
-use Rattle.trace_patterns.specs.Known.{Known, is_secret, bank_known, fits, FitsClaim}
+use Rattle.trace_patterns.specs.Prelude.{Known, is_secret, bank_known, fits, FitsClaim}
 use Rattle.trace_patterns.proofs.Notes.{IsClaim, fits_claim, claim_tested}
-use Rattle.note_infer.specs.Least.{States, IsAtLeast, IsFull}
+use Rattle.note_infer.specs.Prelude.{States, IsAtLeast, IsFull}
 use Rattle.note_infer.proofs.SameParts.{known_once, none_not}
 
 -- n items, made one by one

@@ -4,10 +4,8 @@ use Rattle.std.proofs.Common.{◌≡◌, ℕ, ◌+◌, ◌-◌, ◌<◌, ◌≤�
 use Rattle.std.proofs.lemmas.Bool.{cases_lt, cases_eq}
 use Rattle.gr_word.specs.declared.operations.Cmp.{Cmp}
 use Rattle.lt_isa.specs.declared.instructions.Instr.TheVariants.{Jmp, Br}
-use Rattle.lt_isa.specs.Object.{Parts}
-use Rattle.lt_isa.specs.Step.{target_of}
-use Rattle.trace_patterns.specs.SymStates.{SymState}
-use Rattle.trace_patterns.specs.Carries.{CarriesTo, Arrived, Along, Through, CarriesOver, ByBoth, without_notes}
+use Rattle.lt_isa.specs.Prelude.{Parts, target_of}
+use Rattle.trace_patterns.specs.Prelude.{SymState, CarriesTo, Arrived, Along, Through, CarriesOver, ByBoth, without_notes}
 use Rattle.trace_patterns.proofs.Carries.{instr-once, offset_once}
 use Rattle.trace_patterns.proofs.Shapes.{IsRegion, shape-arms}
 use Rattle.note_infer.proofs.Looking.{br_not}

@@ -8,19 +8,10 @@ use Rattle.std.proofs.lemmas.List.Folds.{find-append}
 use Rattle.gr_base.proofs.EachAfter.{EachAfter-push}
 use Rattle.gr_base.proofs.AtLast.{at_last-push}
 use Rattle.lt_isa.specs.declared.symbols.Note.{Note}
-use Rattle.lt_isa.specs.Object.{Parts}
-use Rattle.lt_isa.specs.Ranges.{NoteFits, is_slot_claim}
-use Rattle.trace_patterns.specs.Known.{Known, bank_known, note_known, claimed_bank}
-use Rattle.trace_patterns.specs.Rules.{note_of_place}
+use Rattle.lt_isa.specs.Prelude.{Parts, NoteFits, is_slot_claim}
+use Rattle.trace_patterns.specs.Prelude.{Known, bank_known, note_known, claimed_bank, note_of_place}
 use Rattle.trace_patterns.proofs.Masks.{get_or-claims}
-use Rattle.note_infer.specs.Least.{States}
-use Rattle.note_infer.specs.Brings.{IsSoundAt}
-use Rattle.note_infer.specs.Noting.{is_marked_at, claims_at, IsNoteAt, IsNoteOf, NotesBelow}
-
--- what is known of a place
-pub none_if : (x : Option Known) → is_none x ≡ true → x ≡ None
-none_if None e = refl
-none_if (Some k) e = absurd (let f : false ≡ true = e in cc)
+use Rattle.note_infer.specs.Prelude.{States, IsSoundAt, is_marked_at, claims_at, IsNoteAt, IsNoteOf, NotesBelow}
 
 pub known_if : (x : Option Known) → is_none x ≡ false → (k : Known) × (x ≡ Some k)
 known_if None e = absurd (let f : true ≡ false = e in cc)

@@ -9,19 +9,10 @@ use Rattle.gr_word.specs.declared.operations.Cmp.{Cmp}
 use Rattle.lt_isa.specs.declared.symbols.Note.{Note}
 use Rattle.lt_isa.specs.declared.instructions.Instr.{Instr}
 use Rattle.lt_isa.specs.declared.instructions.Instr.TheVariants.{Nop, Br}
-use Rattle.lt_isa.specs.Object.{Parts}
-use Rattle.lt_isa.specs.Step.{target_of}
-use Rattle.lt_isa.specs.Ranges.{IsInRange}
-use Rattle.trace_patterns.specs.Known.{Known, bank_known, claimed_bank, marks, claims, note_known}
-use Rattle.trace_patterns.specs.Carries.{without_notes}
+use Rattle.lt_isa.specs.Prelude.{Parts, target_of, IsInRange}
+use Rattle.trace_patterns.specs.Prelude.{Known, bank_known, claimed_bank, marks, claims, note_known, without_notes}
 use Rattle.trace_patterns.proofs.Masks.{length-marks, marks-set_bit, length-claims, get_or-claims}
-use Rattle.note_infer.specs.Steps.{AllReachable}
-use Rattle.note_infer.specs.Ways.{is_crossed}
-use Rattle.note_infer.specs.Least.{IsFull}
-use Rattle.note_infer.specs.Brings.{at_places}
-use Rattle.note_infer.specs.Growth.{HasLast}
-use Rattle.note_infer.specs.Inferred.{LeastNotesExist}
-use Rattle.note_infer.specs.Noting.{FindsNotes, is_marked_at, Marks, MarksFrom, MarksBelow, NotesBelow}
+use Rattle.note_infer.specs.Prelude.{AllReachable, is_crossed, IsFull, at_places, HasLast, LeastNotesExist, FindsNotes, is_marked_at, Marks, MarksFrom, MarksBelow, NotesBelow}
 use Rattle.note_infer.proofs.LeastAccepted.{reachable_renoted}
 use Rattle.note_infer.proofs.Marking.{marks_one, marks_nothing, marks_goes, marks_halts, marks_jumps, marks_branches, marks_crossed, marks_begun, marks_more, marks_skip}
 use Rattle.note_infer.proofs.Noted.{notes_begun, notes_skip, notes_push}

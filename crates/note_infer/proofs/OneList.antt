@@ -3,19 +3,12 @@ use Rattle.std.proofs.Common.{◌≡◌, ℕ, ◌+◌, ◌<◌, ◌≤◌, Bool,
 use Rattle.std.specs.Prelude.{if◌then◌else◌}
 use Rattle.std.specs.Option.{option_map}
 use Rattle.std.proofs.lemmas.Bool.{cases_eq, cases_lt, eq-eqb, ne_eqb}
-use Rattle.gr_base.specs.Lists.{EachAfter}
+use Rattle.gr_base.specs.Prelude.{EachAfter}
 use Rattle.gr_base.proofs.AtLast.{at_last-push}
 use Rattle.lt_isa.specs.declared.symbols.Note.{Note}
-use Rattle.lt_isa.specs.Object.{Parts}
-use Rattle.lt_isa.specs.Ranges.{next_place}
-use Rattle.trace_patterns.specs.Known.{Known, note_known}
-use Rattle.trace_patterns.specs.Rules.{note_of_place}
-use Rattle.trace_patterns.specs.Carries.{without_notes}
-use Rattle.note_infer.specs.Ways.{Branches, Jumps}
-use Rattle.note_infer.specs.Least.{States, IsLeast}
-use Rattle.note_infer.specs.LeastNotes.{IsTarget, OfJump, OfBranch, StandAtTargets}
-use Rattle.note_infer.specs.Inferred.{claim_of, LeastNotesAreOne}
-use Rattle.note_infer.specs.Noting.{claims_at}
+use Rattle.lt_isa.specs.Prelude.{Parts, next_place}
+use Rattle.trace_patterns.specs.Prelude.{Known, note_known, note_of_place, without_notes}
+use Rattle.note_infer.specs.Prelude.{Branches, Jumps, States, IsLeast, IsTarget, OfJump, OfBranch, StandAtTargets, claim_of, LeastNotesAreOne, claims_at}
 use Rattle.note_infer.proofs.Once.{last-once}
 use Rattle.note_infer.proofs.Inferring.{same_stand, claims_are}
 use Rattle.note_infer.proofs.SameParts.{known_once, none_not}

@@ -7,13 +7,11 @@ use Rattle.std.proofs.lemmas.List.{get_or_past, get_or-replicate, length-replica
 use Rattle.gr_word.specs.declared.operations.Cmp.{Cmp}
 use Rattle.lt_isa.specs.declared.instructions.Instr.{Instr}
 use Rattle.lt_isa.specs.declared.instructions.Instr.TheVariants.{Halt, Jmp, Br}
-use Rattle.lt_isa.specs.Object.{Parts}
-use Rattle.lt_isa.specs.Step.{target_of}
+use Rattle.lt_isa.specs.Prelude.{Parts, target_of}
 use Rattle.trace_patterns.proofs.Carries.{instr-once, offset_once}
-use Rattle.trace_patterns.specs.Known.{Known}
-use Rattle.note_infer.specs.Brings.{Waits}
-use Rattle.note_infer.specs.Noting.{IsTargetOf, ByJump, ByBranch}
-use Rattle.note_infer.specs.Kept.{IsLinked, LinkedHere, LinkedBefore, LinksFall, OriginsBelow, TellsOrigins, TellsOne, IsFollowed, AwaitsOne, Within, Outside, Awaits, AwaitsBelow, IsWithout, link_at}
+use Rattle.trace_patterns.specs.Prelude.{Known}
+use Rattle.note_infer.specs.Prelude.{Waits, IsTargetOf, ByJump, ByBranch, IsLinked, LinkedHere, LinkedBefore, OriginsBelow, TellsOrigins, TellsOne, IsFollowed, AwaitsOne, Within, Awaits, AwaitsBelow, IsWithout, link_at}
+use Rattle.note_infer.specs.Kept.{Outside}
 use Rattle.note_infer.proofs.Brought.{waits-last, waits-end, waits-more}
 use Rattle.note_infer.proofs.SameParts.{same_jump}
 
@@ -133,9 +131,6 @@ origins_begun o n m e f = record {
 pub origins_ended : (o : Parts) (bound : ℕ) (last before : List ℕ) → bound ≡ length o.code
     → OriginsBelow o bound last before → TellsOrigins o last before
 origins_ended o bound last before e h = subst (λ (x : ℕ). OriginsBelow o x last before) e h
-
-pub links_fall : (o : Parts) (last before : List ℕ) → TellsOrigins o last before → LinksFall last before
-links_fall o last before h = record { inside = λ q. omega (arith, h.inside q, h.before_size); falls = h.falls }
 
 -- a list is followed to its end
 pub followed_next : (before : List ℕ) (first link : ℕ) (seen more : ℕ → Type 0) → 0 < link

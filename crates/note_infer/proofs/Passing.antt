@@ -8,20 +8,13 @@ use Rattle.gr_word.specs.declared.operations.Cmp.{Cmp}
 use Rattle.gr_word.specs.declared.operations.Op.{Op}
 use Rattle.lt_isa.specs.declared.instructions.Instr.{Instr}
 use Rattle.lt_isa.specs.declared.instructions.Instr.TheVariants.{Nop, Halt, Li, Alu, Ldb, Stb, Idb, Ldw, Stw, Jmp, Br}
-use Rattle.lt_isa.specs.Object.{Parts, is_ram, is_eram}
-use Rattle.lt_isa.specs.Step.{target_of}
-use Rattle.symbolic_values.specs.Trees.{Value, Const, Reg}
-use Rattle.trace_patterns.specs.Known.{Known, is_secret, bank_known, set_secret, set_bank, FitsClaim}
-use Rattle.trace_patterns.specs.SymStates.{SymState, SymSlot, AnySlot, RamSlot, EramSlot, OramSlot, tree_held, slot_held, hold_tree, hold_slot, at_entry, entry_slot, known_after, slot_bank, common, common_tree, common_slot}
-use Rattle.trace_patterns.specs.Single.{applied_trees, block_held, word_held}
-use Rattle.trace_patterns.specs.Carried.{only_goes_on, known_behind, held_behind, slot_shows, slot_is_ram, slot_loaded}
-use Rattle.trace_patterns.specs.Carries.{CarriesTo, Arrived, Along, Through, CarriesOver, ByBoth, without_notes}
+use Rattle.lt_isa.specs.Prelude.{Parts, is_ram, is_eram, target_of}
+use Rattle.symbolic_values.specs.Prelude.{Value, Const, Reg}
+use Rattle.trace_patterns.specs.Prelude.{Known, is_secret, bank_known, set_secret, set_bank, FitsClaim, SymState, SymSlot, AnySlot, RamSlot, EramSlot, OramSlot, tree_held, slot_held, hold_tree, hold_slot, at_entry, entry_slot, known_after, slot_bank, common, common_tree, common_slot, applied_trees, block_held, word_held, only_goes_on, known_behind, held_behind, slot_shows, slot_is_ram, slot_loaded, CarriesTo, Arrived, Along, Through, CarriesOver, ByBoth, without_notes}
 use Rattle.trace_patterns.proofs.Shapes.{IsRegion, shape-arms}
 use Rattle.trace_patterns.proofs.SymStateLaws.{IsSized, tree-at_entry, slot-at_entry, sized-at_entry, secret-after, bank-after, tree-common, slot-common, sized-common, common_tree-cases, common_slot-cases}
 use Rattle.trace_patterns.proofs.Carries.{instr-once, offset_once}
-use Rattle.note_infer.specs.Ways.{is_crossed, PublicWay, Next, Skips, Branches, Jumps, Crosses}
-use Rattle.note_infer.specs.Least.{States, IsAtLeast, IsFull}
-use Rattle.note_infer.specs.UnderWay.{with_state}
+use Rattle.note_infer.specs.Prelude.{is_crossed, PublicWay, Next, Skips, Branches, Jumps, Crosses, States, IsAtLeast, IsFull, with_state}
 use Rattle.note_infer.proofs.Keeps.{Keeps, keeps-set}
 use Rattle.note_infer.proofs.Lower.{IsLower, below-own, held-below, lower-own, lower-fits, lower-label, full-after}
 use Rattle.note_infer.proofs.Looking.{br_not, jmp_not}
@@ -126,12 +119,7 @@ behind_passed o s (Ldw rd j ro) sized =
     (is_none (word_held o b t))) (sym (bank-after s j))
     (subst (λ (l : Bool). Keeps true (not (slot_is_ram (slot_bank b)) || l) (is_none (word_held o b t)))
     (sym (secret-after s ro)) (word_kept o b t)))
-behind_passed o s Nop sized = lower-own (known_after s) (full-after s sized)
-behind_passed o s Halt sized = lower-own (known_after s) (full-after s sized)
-behind_passed o s (Stb j) sized = lower-own (known_after s) (full-after s sized)
-behind_passed o s (Stw rs j ro) sized = lower-own (known_after s) (full-after s sized)
-behind_passed o s (Jmp offset) sized = lower-own (known_after s) (full-after s sized)
-behind_passed o s (Br cmp ra rb offset) sized = lower-own (known_after s) (full-after s sized)
+behind_passed o s other sized = lower-own (known_after s) (full-after s sized)
 
 -- what is known at the entry is known there
 entry_label : (b : Bool) (r : ℕ) → Keeps true b (is_none (let v : Option Value = if b then None else Some (Reg r) in v))

@@ -6,16 +6,10 @@ use Rattle.std.proofs.lemmas.Option.{slice_get-get_or}
 use Rattle.gr_word.specs.declared.operations.Cmp.{Cmp}
 use Rattle.lt_isa.specs.declared.instructions.Instr.{Instr}
 use Rattle.lt_isa.specs.declared.instructions.Instr.TheVariants.{Nop, Br}
-use Rattle.lt_isa.specs.Object.{Parts}
-use Rattle.lt_isa.specs.Step.{target_of}
-use Rattle.trace_patterns.specs.Known.{Known, start_known, is_secret, bank_known, set_secret, set_bank, fits}
-use Rattle.trace_patterns.specs.Carried.{known_behind}
-use Rattle.trace_patterns.specs.Carries.{JoinsIn}
-use Rattle.region_walk.specs.NextSteps.{BranchStands}
-use Rattle.note_infer.specs.Ways.{is_crossed}
-use Rattle.note_infer.specs.Least.{IsFull}
-use Rattle.note_infer.specs.UnderWay.{common_bank, LabelsUpTo, BanksUpTo, IsRaisedTo}
-use Rattle.note_infer.specs.Brings.{at_places, Enough, More, BringsInside, InCode, Outside, AllFull, Looks}
+use Rattle.lt_isa.specs.Prelude.{Parts, target_of}
+use Rattle.trace_patterns.specs.Prelude.{Known, start_known, is_secret, bank_known, set_secret, set_bank, fits, known_behind, JoinsIn}
+use Rattle.region_walk.specs.Prelude.{BranchStands}
+use Rattle.note_infer.specs.Prelude.{is_crossed, IsFull, common_bank, LabelsUpTo, BanksUpTo, IsRaisedTo, at_places, Enough, More, BringsInside, InCode, Outside, AllFull, Looks}
 use Rattle.note_infer.proofs.HigherStates.{labels_begun, labels_next, banks_begun, banks_skip, banks_next}
 use Rattle.note_infer.proofs.Rooms.{raised_not, raised_both}
 use Rattle.note_infer.proofs.Looking.{full_at, full_behind, full_joined, full_brought, looks_on, looks_halt, looks_jump, looks_branch, looks_none, looks_over_at, looks_nowhere_at}

@@ -5,15 +5,11 @@ use Rattle.std.specs.Prelude.{◌||◌}
 use Rattle.std.proofs.lemmas.Bool.{cases_lt, ne_eqb}
 use Rattle.gr_word.specs.declared.operations.Cmp.{Cmp}
 use Rattle.lt_isa.specs.declared.instructions.Instr.TheVariants.{Jmp, Br}
-use Rattle.lt_isa.specs.Object.{Parts}
-use Rattle.trace_patterns.specs.Known.{Known}
-use Rattle.trace_patterns.specs.SymStates.{SymState, at_entry}
-use Rattle.trace_patterns.specs.Carries.{CarriesOver, without_notes}
+use Rattle.lt_isa.specs.Prelude.{Parts}
+use Rattle.trace_patterns.specs.Prelude.{Known, SymState, at_entry, CarriesOver, without_notes}
 use Rattle.trace_patterns.proofs.Carries.{instr-once}
 use Rattle.trace_patterns.proofs.Shapes.{IsRegion}
-use Rattle.note_infer.specs.Ways.{is_crossed, PublicWay, Next, Skips, Branches, Jumps, Crosses}
-use Rattle.note_infer.specs.Growth.{MayJoinTo}
-use Rattle.note_infer.specs.Noting.{IsTargetOf, ByJump, ByBranch}
+use Rattle.note_infer.specs.Prelude.{is_crossed, PublicWay, Next, Skips, Branches, Jumps, Crosses, MayJoinTo, IsTargetOf, ByJump, ByBranch}
 use Rattle.note_infer.proofs.Nested.{region_over, nested_over}
 use Rattle.note_infer.proofs.SameParts.{br_not_jmp}
 

@@ -7,21 +7,15 @@ use Rattle.gr_word.specs.declared.operations.Cmp.{Cmp}
 use Rattle.lt_isa.specs.declared.symbols.Note.{Note}
 use Rattle.lt_isa.specs.declared.instructions.Instr.{Instr}
 use Rattle.lt_isa.specs.declared.instructions.Instr.TheVariants.{Halt, Jmp, Br}
-use Rattle.lt_isa.specs.Object.{Parts}
-use Rattle.lt_isa.specs.Step.{target_of}
+use Rattle.lt_isa.specs.Prelude.{Parts, target_of}
 use Rattle.trace_patterns.specs.declared.reasons.Reason.{Reason}
 use Rattle.trace_patterns.specs.declared.reasons.Reason.TheVariants.{JumpOutside, NoNote, NoteTooLow}
-use Rattle.trace_patterns.specs.Known.{Known, start_known, is_secret, note_known, fits, FitsClaim}
-use Rattle.trace_patterns.specs.SymStates.{at_entry}
-use Rattle.trace_patterns.specs.Rules.{Ruling, Refused, Falls, Leaves, Opens, note_of_place, claimed_at, refused_if, at_claim, jumped, ruling_of, ruling_if, ruling_at}
-use Rattle.trace_patterns.specs.Visits.{VisitedAt, Noted, Unnoted, ComesTo, Starts, FallsTo, JoinsAt}
+use Rattle.trace_patterns.specs.Prelude.{Known, start_known, is_secret, note_known, fits, FitsClaim, at_entry, Ruling, Refused, Falls, Leaves, Opens, note_of_place, claimed_at, refused_if, at_claim, jumped, ruling_of, ruling_if, ruling_at, VisitedAt, Noted, Unnoted, ComesTo, Starts, FallsTo, JoinsAt, only_goes_on, known_behind}
 use Rattle.trace_patterns.proofs.Notes.{fits-claim}
 use Rattle.trace_patterns.proofs.Masks.{length-marks, length-claims}
 use Rattle.trace_patterns.proofs.SymStateLaws.{sized-at_entry}
 use Rattle.trace_patterns.proofs.Walks.{crosses-sized}
-use Rattle.trace_patterns.specs.Carried.{only_goes_on}
-use Rattle.trace_patterns.specs.Carried.{known_behind}
-use Rattle.note_infer.specs.Least.{IsFull}
+use Rattle.note_infer.specs.Prelude.{IsFull}
 use Rattle.note_infer.proofs.Lower.{lower-own, known-lower, full-after}
 use Rattle.note_infer.proofs.RuledLower.{refused_not_falls, opens_not_falls, refused_not_opens, leaves_not_opens, leaves_not_falls, falls_not_opens, falls_once, IsPlainRuling, plain-ruled, ruling-some}
 

@@ -3,13 +3,10 @@ use Rattle.std.proofs.Common.{◌≡◌, ℕ, Bool, true, false, not, ◌&&◌, 
 use Rattle.std.proofs.lemmas.Bool.{and_parts, and_from, false≢true}
 use Rattle.lt_isa.specs.declared.instructions.Instr.{Instr}
 use Rattle.lt_isa.specs.declared.instructions.Instr.TheVariants.{Nop, Halt, Li, Alu, Ldb, Stb, Idb, Ldw, Stw, Jmp, Br}
-use Rattle.lt_isa.specs.Object.{Parts, is_ram}
+use Rattle.lt_isa.specs.Prelude.{Parts, is_ram}
 use Rattle.trace_patterns.specs.declared.reasons.Reason.{Reason}
 use Rattle.trace_patterns.specs.declared.reasons.Reason.TheVariants.{SecretAddress, SecretToRam, UnboundSlot}
-use Rattle.trace_patterns.specs.Known.{Known, is_secret, bank_known}
-use Rattle.trace_patterns.specs.Rules.{Ruling, Refused, Falls, Leaves, Opens, shows_block, refused_if, at_bank, ruling_of, ruling_if, ruling_at}
-use Rattle.trace_patterns.specs.Carried.{only_goes_on}
-use Rattle.trace_patterns.specs.Carried.{known_behind, slot_shows, slot_is_ram}
+use Rattle.trace_patterns.specs.Prelude.{Known, is_secret, bank_known, Ruling, Refused, Falls, Leaves, Opens, shows_block, refused_if, at_bank, ruling_of, ruling_if, ruling_at, only_goes_on, known_behind, slot_shows, slot_is_ram}
 use Rattle.note_infer.proofs.Keeps.{Keeps}
 use Rattle.note_infer.proofs.Lower.{IsLower}
 
@@ -57,10 +54,7 @@ at_bank_plain (Some bank) go next h = h bank refl
 pub plain-ruled : (a : Parts) (p : ℕ) (k : Known) (i : Instr) → only_goes_on i ≡ true
     → IsPlainRuling (known_behind k i) (ruling_of a p k i)
 unfolding ruling_of known_behind
-plain-ruled a p k Nop goes = inr refl
 plain-ruled a p k Halt goes = absurd (false≢true goes)
-plain-ruled a p k (Li rd value) goes = inr refl
-plain-ruled a p k (Alu op rd ra rb) goes = inr refl
 plain-ruled a p k (Ldb slot bank r) goes = refused_if_plain (shows_block bank && is_secret k r) SecretAddress _
 plain-ruled a p k (Stb slot) goes = at_bank_plain (bank_known k slot) (λ bank. Falls k) k (λ bank is. inr refl)
 plain-ruled a p k (Idb rd slot) goes =
@@ -76,6 +70,7 @@ plain-ruled a p k (Stw rs slot ro) goes =
     refused_if_plain (is_ram bank && (is_secret k rs || is_secret k ro)) SecretToRam k)
 plain-ruled a p k (Jmp offset) goes = absurd (false≢true goes)
 plain-ruled a p k (Br cmp ra rb offset) goes = absurd (false≢true goes)
+plain-ruled a p k other goes = inr refl
 
 -- what isn't refused isn't refused where less is secret
 label_up : (x y : Bool) → Keeps true x y → x ≡ true → y ≡ true
@@ -111,14 +106,6 @@ at_bank_falls (Some bank) go n e = record { bank = bank; is = refl; goes = e }
 bank_down : (x y : Option ℕ) (b : ℕ) → Keeps None x y → y ≡ Some b → x ≡ Some b
 bank_down x y b (inl e) is = absurd (let f : ◌≡◌ {A = Option ℕ} None (Some b) = sym e ∙ is in cc)
 bank_down x y b (inr e) is = e ∙ is
-
--- the ruling of an instruction that only continues isn't a refusal if a higher one isn't
-NotRefused : Ruling → Type 0
-NotRefused r = (reason : Reason) → ¬ (r ≡ Refused reason)
-
-not_refused_falls : (r : Ruling) (k : Known) → r ≡ Falls k → NotRefused r
-unfolding NotRefused
-not_refused_falls r k e = λ reason f. refused_not_falls reason k (sym f ∙ e)
 
 pub plain-again : (a b : Parts) (p : ℕ) (low high n : Known) (i : Instr) → only_goes_on i ≡ true → IsLower low high
     → ruling_of a p high i ≡ Falls n → ruling_of b p low i ≡ Falls (known_behind low i)

@@ -1,8 +1,11 @@
--- Equal things have equal parts: the offsets of instructions, and what is known at a place.
-use Rattle.std.proofs.Common.{◌≡◌, ℕ, ℤ, Option, Some, None}
+-- Equal things have equal parts: the offsets of instructions, and what is known at a place. A branch may join by what is
+-- known at its place only.
+use Rattle.std.proofs.Common.{◌≡◌, ℕ, ℤ, List, Option, Some, None}
 use Rattle.gr_word.specs.declared.operations.Cmp.{Cmp}
 use Rattle.lt_isa.specs.declared.instructions.Instr.TheVariants.{Jmp, Br}
-use Rattle.trace_patterns.specs.Known.{Known}
+use Rattle.lt_isa.specs.Prelude.{Parts}
+use Rattle.trace_patterns.specs.Prelude.{Known}
+use Rattle.note_infer.specs.Prelude.{States, MayJoin}
 
 pub same_jump : (x y : ℤ) → Jmp x ≡ Jmp y → x ≡ y
 same_jump x y e = cc
@@ -15,3 +18,21 @@ known_once j k e = cc
 
 pub none_not : {A : Type 0} (k : Known) → ◌≡◌ {A = Option Known} None (Some k) → A
 none_not k e = absurd cc
+
+-- a branch may join by other states too that have the same at its place
+pub joins_by : (o : Parts) (crossed : List ℕ) (states others : States) (p : ℕ) (may : MayJoin o crossed states p)
+    → others p ≡ Some may.known → MayJoin o crossed others p
+joins_by o crossed states others p may reached = record {
+  known = may.known;
+  reached = reached;
+  cmp = may.cmp;
+  ra = may.ra;
+  rb = may.rb;
+  offset = may.offset;
+  branch = may.branch;
+  apart = may.apart;
+  secret = may.secret;
+  join = may.join;
+  next = may.next;
+  shaped = may.shaped;
+}

@@ -7,22 +7,15 @@ use Rattle.std.proofs.lemmas.List.{get_or_past, get_or-replicate, length-replica
 use Rattle.gr_word.specs.declared.operations.Cmp.{Cmp}
 use Rattle.lt_isa.specs.declared.instructions.Instr.{Instr}
 use Rattle.lt_isa.specs.declared.instructions.Instr.TheVariants.{Nop, Halt, Li, Alu, Ldb, Stb, Idb, Ldw, Stw, Jmp, Br}
-use Rattle.lt_isa.specs.Object.{Parts, is_ram, is_eram}
-use Rattle.lt_isa.specs.Ranges.{IsInRange, InstrFits}
-use Rattle.symbolic_values.specs.Trees.{Value}
-use Rattle.trace_patterns.specs.Known.{Known, bank_known, start_known}
-use Rattle.trace_patterns.specs.SymStates.{SymState, SymSlot, AnySlot, RamSlot, EramSlot, OramSlot, slot_held, hold_slot, at_entry, entry_slot, slot_bank, common, common_slot}
-use Rattle.trace_patterns.specs.Carried.{known_behind, held_behind, slot_loaded, ram_loaded, eram_loaded}
-use Rattle.trace_patterns.specs.Carries.{CarriesTo, Arrived, Along, Through, CarriesOver, ByBoth, without_notes}
+use Rattle.lt_isa.specs.Prelude.{Parts, is_ram, is_eram, IsInRange, InstrFits}
+use Rattle.symbolic_values.specs.Prelude.{Value}
+use Rattle.trace_patterns.specs.Prelude.{Known, bank_known, start_known, SymState, SymSlot, AnySlot, RamSlot, EramSlot, OramSlot, slot_held, hold_slot, at_entry, entry_slot, slot_bank, common, common_slot, known_behind, held_behind, slot_loaded, ram_loaded, eram_loaded, CarriesTo, Arrived, Along, Through, CarriesOver, ByBoth, without_notes}
 use Rattle.trace_patterns.proofs.SymStateLaws.{slot-at_entry, sized-at_entry, bank-after, slot-common}
 use Rattle.trace_patterns.proofs.Carries.{over-with}
 use Rattle.region_walk.proofs.Numbered.{set_cases}
 use Rattle.lt_isa.proofs.Steps.{instruction-fits}
 use Rattle.trace_patterns.proofs.Shapes.{shape-arms}
-use Rattle.note_infer.specs.Steps.{Onward, Past, Branched, Jumped, IsReachable, AtStart, Behind}
-use Rattle.note_infer.specs.Ways.{PublicWay, Next, Skips, Branches, Jumps, Crosses}
-use Rattle.note_infer.specs.UnderWay.{IsRaisedTo}
-use Rattle.note_infer.specs.Brings.{Brings, Enough, More, IsSoundAt, AllSound}
+use Rattle.note_infer.specs.Prelude.{Onward, Past, Branched, Jumped, IsReachable, AtStart, Behind, PublicWay, Next, Skips, Branches, Jumps, Crosses, IsRaisedTo, Brings, Enough, More, IsSoundAt, AllSound}
 
 -- a slot that is bound to one of this many banks, if its bank is known
 abbrev pub BoundSound : ℕ → SymSlot → Type 0
@@ -47,16 +40,14 @@ if_sound n false x y hx hy = hy
 
 common_sound : (n : ℕ) (x y : SymSlot) → BoundSound n x → BoundSound n (common_slot x y)
 common_sound n AnySlot y h = any-sound n
-common_sound n (RamSlot block origin) AnySlot h = any-sound n
 common_sound n (RamSlot block origin) (RamSlot other origin') h = if_sound n _ (RamSlot block origin) AnySlot h
     (any-sound n)
 common_sound n (RamSlot block origin) (EramSlot other) h = any-sound n
 common_sound n (RamSlot block origin) (OramSlot other) h = any-sound n
-common_sound n (EramSlot block) AnySlot h = any-sound n
 common_sound n (EramSlot block) (RamSlot other origin') h = any-sound n
 common_sound n (EramSlot block) (EramSlot other) h = if_sound n _ (EramSlot block) AnySlot h (any-sound n)
 common_sound n (EramSlot block) (OramSlot other) h = any-sound n
-common_sound n (OramSlot bank) AnySlot h = any-sound n
+common_sound n other AnySlot h = any-sound n
 common_sound n (OramSlot bank) (RamSlot other origin') h = any-sound n
 common_sound n (OramSlot bank) (EramSlot other) h = any-sound n
 common_sound n (OramSlot bank) (OramSlot other) h = if_sound n _ (OramSlot bank) AnySlot h (any-sound n)
@@ -89,17 +80,8 @@ module _ (o : Parts) (range : IsInRange o) where
   held-sound : (s : SymState) (i : Instr) → InstrFits (length o.banks) i → SlotsSound (length o.banks) s
       → SlotsSound (length o.banks) (held_behind o s i)
   unfolding held_behind
-  held-sound s (Li rd value) fits h = h
-  held-sound s (Alu op rd ra rb) fits h = h
   held-sound s (Ldb k bank r) fits h = slot-sound s k _ h (loaded-sound bank _ fits.1)
-  held-sound s (Idb rd k) fits h = h
-  held-sound s (Ldw rd k ro) fits h = h
-  held-sound s Nop fits h = h
-  held-sound s Halt fits h = h
-  held-sound s (Stb k) fits h = h
-  held-sound s (Stw rs k ro) fits h = h
-  held-sound s (Jmp offset) fits h = h
-  held-sound s (Br cmp ra rb offset) fits h = h
+  held-sound s other fits h = h
 
   both-sound : (s t : SymState) → SlotsSound (length o.banks) s → SlotsSound (length o.banks) (common s t)
   both-sound s t h k =
@@ -139,19 +121,10 @@ module _ (o : Parts) (range : IsInRange o) where
       → ((slot bank : ℕ) → bank_known k slot ≡ Some bank → bank < length o.banks) → (slot bank : ℕ)
       → bank_known (known_behind k i) slot ≡ Some bank → bank < length o.banks
   unfolding known_behind
-  behind-sound k (Li rd value) fits h = h
-  behind-sound k (Alu op rd ra rb) fits h = h
   behind-sound k (Ldb j bank r) fits h = λ slot.
       set_cases (λ (x : Option ℕ). (b : ℕ) → x ≡ Some b → b < length o.banks) k.banks j slot (Some bank) None
       (λ b e. some_bank bank b (length o.banks) fits.1 e) (λ b e. none_bank b e) (h slot)
-  behind-sound k (Idb rd j) fits h = h
-  behind-sound k (Ldw rd j ro) fits h = h
-  behind-sound k Nop fits h = h
-  behind-sound k Halt fits h = h
-  behind-sound k (Stb j) fits h = h
-  behind-sound k (Stw rs j ro) fits h = h
-  behind-sound k (Jmp offset) fits h = h
-  behind-sound k (Br cmp ra rb offset) fits h = h
+  behind-sound k other fits h = h
 
 -- steps lead to the end of what is carried
 mutual

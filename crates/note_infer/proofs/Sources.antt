@@ -5,15 +5,9 @@ use Rattle.gr_word.specs.declared.operations.Cmp.{Cmp}
 use Rattle.lt_isa.specs.declared.instructions.Instr.{Instr}
 use Rattle.lt_isa.specs.declared.instructions.Instr.TheVariants.{Jmp, Br}
 use Rattle.lt_isa.specs.declared.symbols.Note.{Note}
-use Rattle.lt_isa.specs.Object.{Parts}
-use Rattle.trace_patterns.specs.Known.{Known}
-use Rattle.trace_patterns.specs.SymStates.{SymState, at_entry, known_after}
-use Rattle.trace_patterns.specs.Carried.{only_goes_on}
-use Rattle.note_infer.specs.Steps.{LeadsTo, Onward, Past, Branched, Jumped}
-use Rattle.trace_patterns.specs.Carried.{known_behind}
-use Rattle.trace_patterns.specs.Carries.{CarriesOver, ByBoth, JoinsIn}
-use Rattle.note_infer.specs.Ways.{PublicWay, Next, Skips, Branches, Jumps, Crosses, is_crossed}
-use Rattle.note_infer.specs.LeastNotes.{with_notes}
+use Rattle.lt_isa.specs.Prelude.{Parts}
+use Rattle.trace_patterns.specs.Prelude.{Known, SymState, at_entry, known_after, only_goes_on, known_behind, CarriesOver, ByBoth, JoinsIn}
+use Rattle.note_infer.specs.Prelude.{LeadsTo, Onward, Past, Branched, Jumped, PublicWay, Next, Skips, Branches, Jumps, Crosses, is_crossed, with_notes}
 use Rattle.trace_patterns.proofs.Carries.{instr-once, offset_once, arms-once, over-once}
 
 -- the join of a region is unique, for any state

@@ -4,20 +4,11 @@ use Rattle.std.proofs.lemmas.Bool.{cases_lt, false≢true}
 use Rattle.gr_word.specs.declared.operations.Cmp.{Cmp}
 use Rattle.lt_isa.specs.declared.symbols.Note.{Note}
 use Rattle.lt_isa.specs.declared.instructions.Instr.TheVariants.{Br}
-use Rattle.lt_isa.specs.Object.{Parts}
-use Rattle.trace_patterns.specs.Patterns.{Shown}
-use Rattle.trace_patterns.specs.Events.{TreeEvent}
-use Rattle.trace_patterns.specs.Known.{Known, start_known, is_secret, FitsClaim}
-use Rattle.trace_patterns.specs.SymStates.{SymState, at_entry, known_after}
-use Rattle.trace_patterns.specs.Rules.{claimed_at}
-use Rattle.trace_patterns.specs.Visits.{CrossesFrom, VisitedAt, Noted, Unnoted, ComesTo, Starts, FallsTo, JoinsAt}
-use Rattle.trace_patterns.specs.Accepts.{Accepts}
+use Rattle.lt_isa.specs.Prelude.{Parts}
+use Rattle.trace_patterns.specs.Prelude.{Shown, TreeEvent, Known, start_known, is_secret, FitsClaim, SymState, at_entry, known_after, claimed_at, CrossesFrom, VisitedAt, Noted, Unnoted, ComesTo, Starts, FallsTo, JoinsAt, Accepts, without_notes, CarriesOver, JoinsIn}
 use Rattle.trace_patterns.proofs.SymStateLaws.{sized-at_entry}
 use Rattle.trace_patterns.proofs.Walks.{crosses-region}
-use Rattle.trace_patterns.specs.Carries.{without_notes, CarriesOver, JoinsIn}
-use Rattle.note_infer.specs.Ways.{PublicWay, Next, Skips, Branches, Jumps, Crosses, is_crossed}
-use Rattle.note_infer.specs.Least.{States, IsLast}
-use Rattle.note_infer.specs.LeastNotes.{with_notes, OpensTheSame, IsTarget, OfJump, OfBranch, StandAtTargets}
+use Rattle.note_infer.specs.Prelude.{PublicWay, Next, Skips, Branches, Jumps, Crosses, is_crossed, States, IsLast, with_notes, OpensTheSame, IsTarget, OfJump, OfBranch, StandAtTargets}
 use Rattle.note_infer.proofs.Lower.{IsLower, lower-fits, fits-lower, lower-own, lower-then}
 use Rattle.trace_patterns.proofs.Carries.{instr-once, offset_once}
 use Rattle.note_infer.proofs.CarriedLower.{way-higher}

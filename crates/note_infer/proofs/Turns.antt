@@ -1,11 +1,9 @@
 -- The loop: how it begins, one turn, and its end.
 use Rattle.std.proofs.Common.{◌≡◌, ℕ, ◌<◌, List, [], ◌∷◌, ◌++◌, length, get_or, set, ◌⊎◌, inl, inr, Option, Some, None, sym, ap, ◌∙◌, subst, arith, get_or-set_same, get_or-set_other, length-set, length-append}
 use Rattle.std.proofs.lemmas.Bool.{cases_eq}
-use Rattle.lt_isa.specs.Object.{Parts}
-use Rattle.lt_isa.specs.Ranges.{IsInRange}
-use Rattle.trace_patterns.specs.Known.{Known, start_known}
-use Rattle.note_infer.specs.Least.{IsLeast}
-use Rattle.note_infer.specs.Brings.{at_places, Waits, Looks, LoopHolds, IsSoundAt, work_left}
+use Rattle.lt_isa.specs.Prelude.{Parts, IsInRange}
+use Rattle.trace_patterns.specs.Prelude.{Known, start_known}
+use Rattle.note_infer.specs.Prelude.{IsLeast, at_places, Waits, Looks, LoopHolds, IsSoundAt, work_left}
 use Rattle.note_infer.proofs.Sound.{start-sound}
 use Rattle.note_infer.proofs.UnderWay.{begun, under_way-begun, under_way-ended, at-set, off-set}
 use Rattle.note_infer.proofs.Brought.{under_way-same, under_way_waits, waits-last, waits-end, waits-more}

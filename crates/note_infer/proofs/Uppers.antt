@@ -6,11 +6,9 @@ use Rattle.std.proofs.lemmas.Bool.{cases_lt, cases_eq, eqb-true, false≢true}
 use Rattle.std.proofs.lemmas.List.{get_or_past}
 use Rattle.lt_isa.specs.declared.instructions.Instr.{Instr}
 use Rattle.lt_isa.specs.declared.instructions.Instr.TheVariants.{Nop, Halt, Li, Alu, Ldb, Stb, Idb, Ldw, Stw, Jmp, Br}
-use Rattle.lt_isa.specs.Object.{is_ram}
-use Rattle.trace_patterns.specs.Known.{Known, is_secret, bank_known, set_secret, set_bank, FitsClaim}
-use Rattle.trace_patterns.specs.Carried.{known_behind, slot_shows, slot_is_ram}
-use Rattle.note_infer.specs.Least.{States, IsAtLeast, IsFull}
-use Rattle.note_infer.specs.UnderWay.{IsHigherOf, BanksUpTo, common_bank}
+use Rattle.lt_isa.specs.Prelude.{is_ram}
+use Rattle.trace_patterns.specs.Prelude.{Known, is_secret, bank_known, set_secret, set_bank, FitsClaim, known_behind, slot_shows, slot_is_ram}
+use Rattle.note_infer.specs.Prelude.{States, IsAtLeast, IsFull, IsHigherOf, BanksUpTo, common_bank}
 use Rattle.note_infer.proofs.HigherStates.{is_higher, or_left, or_right, or_either, bank_both}
 use Rattle.note_infer.proofs.Meets.{made, length-made, get_or-made, past_secret, past_bank, AllFullIn}
 
@@ -260,9 +258,4 @@ module _ (one two high : Known) (one_full : IsFull one) (two_full : IsFull two) 
       label_upper rd (not (slot_is_ram (bank_known one slot)) || is_secret one ro)
       (not (slot_is_ram (bank_known two slot)) || is_secret two ro)
       (not (slot_is_ram (bank_known (upper one two) slot)) || is_secret (upper one two) ro) (load_secret slot ro) f g
-  behind_upper third first second Nop some f g = same_upper f g
-  behind_upper third first second Halt some f g = same_upper f g
-  behind_upper third first second (Stb slot) some f g = same_upper f g
-  behind_upper third first second (Stw rs slot ro) some f g = same_upper f g
-  behind_upper third first second (Jmp offset) some f g = same_upper f g
-  behind_upper third first second (Br cmp ra rb offset) some f g = same_upper f g
+  behind_upper third first second other some f g = same_upper f g

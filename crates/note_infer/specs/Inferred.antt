@@ -81,6 +81,4 @@ pub record WouldDo (o : Parts) (notes : List Note) : Type 0 where
 -- where the least notes are refused, no such notes are
 abbrev pub NoNotesWouldDo : Parts → InferError → Type 0
 NoNotesWouldDo o (Refused pc reason) = (notes : List Note) → ¬ WouldDo o notes
-NoNotesWouldDo o (Dead place) = Unit {0}
-NoNotesWouldDo o (TooMany count) = Unit {0}
-NoNotesWouldDo o Memory = Unit {0}
+NoNotesWouldDo o other = Unit {0}

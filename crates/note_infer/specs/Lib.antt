@@ -13,3 +13,4 @@ pub mod Growth
 pub mod Noting
 pub mod Inferred
 pub mod Kept
+pub mod Prelude

@@ -11,13 +11,13 @@ use Rattle.lt_isa.specs.Ranges.{IsInRange, NoteFits, next_place}
 use Rattle.trace_patterns.specs.Known.{Known, note_known}
 use Rattle.trace_patterns.specs.Rules.{note_of_place}
 use Rattle.lt_checker.specs.declared.checks.CheckError.{CheckError}
-use Rattle.lt_checker.specs.declared.checks.CheckError.TheVariants as check
 use Rattle.note_infer.specs.Steps.{IsDead, AllReachable}
 use Rattle.note_infer.specs.Ways.{is_crossed}
 use Rattle.note_infer.specs.Least.{States, IsLast}
 use Rattle.note_infer.specs.LeastNotes.{IsTarget}
 use Rattle.note_infer.specs.declared.faults.InferError.{InferError}
 use Rattle.note_infer.specs.declared.faults.InferError.TheVariants.{Dead, Refused, TooMany, Memory}
+use Rattle.lt_checker.specs.declared.checks.CheckError.TheVariants as check
 
 -- a jump, or a branch that isn't crossed, leads from one place to another of the code
 pub data IsTargetOf (o : Parts) (crossed : List ℕ) : (p q : ℕ) → Type 0 where

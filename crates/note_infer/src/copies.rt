@@ -1,6 +1,6 @@
 // An object with other notes.
 ghost use Rattle.std.specs.Prelude.{◌≡◌, IfOk};
-ghost use Rattle.lt_isa.specs.Ranges.{IsInRange};
+ghost use Rattle.lt_isa.specs.Prelude.{IsInRange};
 ghost use Rattle.note_infer.specs.LeastNotes.{with_notes};
 
 use gr_word::Memory;

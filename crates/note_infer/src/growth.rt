@@ -1,6 +1,6 @@
 // Which branches are crossed: the lowest that may join does, until none may.
 ghost use Rattle.std.specs.Prelude.{◌≡◌, ◌<◌, [], length, IfOk};
-ghost use Rattle.lt_isa.specs.Ranges.{IsInRange};
+ghost use Rattle.lt_isa.specs.Prelude.{IsInRange};
 ghost use Rattle.note_infer.specs.Growth.{HasLeast, HasLast, IsNextToJoin};
 ghost use Rattle.note_infer.specs.Kept.{TellsOrigins, ListsJoiners, ListsRest};
 

@@ -1,12 +1,12 @@
 // The object with its least notes.
 ghost use Rattle.std.specs.Prelude.{◌≡◌, [], length, IfOk, IfErr};
-ghost use Rattle.lt_isa.specs.Ranges.{IsInRange};
+ghost use Rattle.lt_isa.specs.Prelude.{IsInRange};
 ghost use Rattle.note_infer.specs.Steps.{AllReachable};
 ghost use Rattle.note_infer.specs.Growth.{HasLeast, HasLast};
 ghost use Rattle.note_infer.specs.Kept.{ListsJoiners};
 ghost use Rattle.note_infer.specs.Inferred.{IsInferred, IsWhyNot, NoNotesWouldDo};
 ghost use Rattle.note_infer.specs.Noting.{FindsNotes, WhyNoNotes, TellsRefusal};
-ghost use Rattle.trace_patterns.specs.Carries.{without_notes};
+ghost use Rattle.trace_patterns.specs.Prelude.{without_notes};
 
 use crate::copies::copy_with;
 use crate::crossed::Crossed;

@@ -1,6 +1,6 @@
 // Whether the branch at a place may join those that are crossed.
 ghost use Rattle.std.specs.Prelude.{◌≡◌, ◌<◌, [], true, false, length, slice_get, slice_index_or, Some, None, IfOk};
-ghost use Rattle.lt_isa.specs.Ranges.{IsInRange};
+ghost use Rattle.lt_isa.specs.Prelude.{IsInRange};
 ghost use Rattle.note_infer.specs.Growth.{AnswersJoin};
 ghost use Rattle.note_infer.specs.Ways.{is_crossed};
 ghost use Rattle.note_infer.specs.Branches.{IsBranchOf, BranchIsAt};

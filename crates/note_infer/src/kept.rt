@@ -1,7 +1,7 @@
 // One more branch joins: the states that stay as they are, and those that are searched again.
 ghost use Rattle.std.specs.Prelude.{◌≡◌, ◌<◌, ◌≤◌, ◌∷◌, [], true, false, ℕ, List, Option, None, length, IfOk, OnOk, slice_index_or};
-ghost use Rattle.lt_isa.specs.Ranges.{IsInRange};
-ghost use Rattle.trace_patterns.specs.Known.{Known};
+ghost use Rattle.lt_isa.specs.Prelude.{IsInRange};
+ghost use Rattle.trace_patterns.specs.Prelude.{Known};
 ghost use Rattle.note_infer.specs.Ways.{is_crossed};
 ghost use Rattle.note_infer.specs.Brings.{LoopHolds};
 ghost use Rattle.note_infer.specs.Growth.{HasLeast, IsLowestToJoin};

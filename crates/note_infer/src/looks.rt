@@ -1,8 +1,8 @@
 // One place is looked at: what its ways carry is brought to their ends.
 ghost use Rattle.std.specs.Prelude.{◌<◌, ◌≡◌, ◌^◌, OnOk, Some, None, true, false, [], length, slice_get, slice_index_or};
-ghost use Rattle.lt_isa.specs.Ranges.{IsInRange, InstrFits, IsOffset};
-ghost use Rattle.trace_patterns.specs.Carried.{only_goes_on};
-ghost use Rattle.region_walk.specs.NextSteps.{BranchStands};
+ghost use Rattle.lt_isa.specs.Prelude.{IsInRange, InstrFits, IsOffset};
+ghost use Rattle.trace_patterns.specs.Prelude.{only_goes_on};
+ghost use Rattle.region_walk.specs.Prelude.{BranchStands};
 ghost use Rattle.note_infer.specs.Ways.{is_crossed};
 ghost use Rattle.note_infer.specs.Least.{IsFull};
 ghost use Rattle.note_infer.specs.Brings.{AllFull, BringsInside, IsAt, Looks};

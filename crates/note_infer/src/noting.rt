@@ -1,6 +1,6 @@
 // The notes at marked places, with what is known there.
 ghost use Rattle.std.specs.Prelude.{◌≡◌, ◌<◌, ◌+◌, ◌^◌, None, is_none, length, slice_index_or, IfOk, OnOk};
-ghost use Rattle.lt_isa.specs.Ranges.{IsInRange};
+ghost use Rattle.lt_isa.specs.Prelude.{IsInRange};
 ghost use Rattle.note_infer.specs.Brings.{AllSound, at_places};
 ghost use Rattle.note_infer.specs.Noting.{IsNoteOf, NotesBelow, IsFirstUnknown};
 

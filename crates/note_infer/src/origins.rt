@@ -1,6 +1,6 @@
 // From where jumps and branches lead to each place.
 ghost use Rattle.std.specs.Prelude.{◌≡◌, ◌<◌, ◌+◌, ◌^◌, false, length, slice_get, Some, IfOk, OnOk};
-ghost use Rattle.lt_isa.specs.Ranges.{IsInRange};
+ghost use Rattle.lt_isa.specs.Prelude.{IsInRange};
 ghost use Rattle.note_infer.specs.Kept.{TellsOrigins, OriginsBelow, TellsOne, LinksFall, LedFromWithin, AwaitsOne, Awaits, IsLinked, link_at};
 
 use gr_word::Memory;

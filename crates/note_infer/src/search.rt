@@ -1,7 +1,7 @@
 // The search for the least states: places that wait are looked at until none does.
 ghost use Rattle.std.specs.Prelude.{◌≡◌, ◌<◌, ℕ, IfOk, OnOk, [], length, None, slice_index_or};
 ghost use Rattle.std.specs.List.{Contains};
-ghost use Rattle.lt_isa.specs.Ranges.{IsInRange};
+ghost use Rattle.lt_isa.specs.Prelude.{IsInRange};
 ghost use Rattle.note_infer.specs.Least.{MayJoin};
 ghost use Rattle.note_infer.specs.Brings.{LoopHolds, at_places};
 ghost use Rattle.note_infer.specs.Growth.{HasLeast};

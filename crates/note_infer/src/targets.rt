@@ -1,6 +1,6 @@
 // The targets that need notes.
 ghost use Rattle.std.specs.Prelude.{◌≡◌, ◌<◌, ◌+◌, length, slice_get, Some, IfOk, true};
-ghost use Rattle.lt_isa.specs.Ranges.{IsInRange};
+ghost use Rattle.lt_isa.specs.Prelude.{IsInRange};
 ghost use Rattle.note_infer.specs.Brings.{at_places};
 ghost use Rattle.note_infer.specs.Noting.{Marks, MarksFrom, MarksBelow};
 

@@ -7,9 +7,9 @@ use Rattle.byteorder.specs.Endian.{little_number}
 use Rattle.lt_isa.specs.declared.instructions.Instr.{Instr}
 use Rattle.lt_isa.specs.declared.instruction_table.Kind.{Kind}
 use Rattle.lt_isa.specs.declared.instruction_table.Limits.{Limits}
-use Rattle.lt_isa.specs.InstructionTable.{kind_named, limits_of, instruction_of}
-use Rattle.gr_base.specs.Lists.{is_within}
-use Rattle.object_file.specs.Reading.{Read, number_at, field_at, kind_at, instruction_at}
+use Rattle.lt_isa.specs.Prelude.{kind_named, limits_of, instruction_of}
+use Rattle.gr_base.specs.Prelude.{is_within}
+use Rattle.object_file.specs.Prelude.{Read, number_at, field_at, kind_at, instruction_at}
 use Rattle.gr_base.proofs.ListTests.{is_within-Within}
 
 -- a byte is a number of one byte

@@ -4,16 +4,12 @@ use Rattle.std.proofs.Math.Seq.{take-append_seam, take-add}
 use Rattle.std.proofs.lemmas.Bool.{ltb-false, ltb-true, le-ltb, lt-ltb}
 use Rattle.std.proofs.lemmas.Bool.Decides.{nat_tests}
 use Rattle.std.proofs.lemmas.List.{take-append-drop, length-take-le, length-append, length-drop, drop_at, take_at}
-use Rattle.gr_base.specs.Results.{◌>>=◌}
+use Rattle.gr_base.specs.Prelude.{◌>>=◌}
 use Rattle.gr_base.proofs.Results.{IfRead}
-use Rattle.lt_isa.specs.Object.{Parts}
-use Rattle.lt_isa.specs.Ranges.{IsInRange}
+use Rattle.lt_isa.specs.Prelude.{Parts, IsInRange}
 use Rattle.object_file.specs.declared.errors.DecodeError.{DecodeError}
 use Rattle.object_file.specs.declared.errors.DecodeError.TheVariants.{Truncated, BadMagic, BadVersion, BadField, TrailingBytes, Memory}
-use Rattle.object_file.specs.Spelling.{spelling}
-use Rattle.object_file.specs.Reading.{Decodes, Read, place, ended, parts_at, object_at, decoded}
-use Rattle.object_file.specs.Fields.{Telling, NoObject, Version, Place, Field, Fields, NoField, FieldThen, object_fields}
-use Rattle.object_file.specs.FirstFaults.{Fills, Nothing, OneMore, FieldBegins, IsCutShort, told, IsRefused, end_of_field, HasMore, IsFirstObjectFault, IsTruncated}
+use Rattle.object_file.specs.Prelude.{spelling, Decodes, Read, place, ended, parts_at, object_at, decoded, Telling, NoObject, Version, Place, Field, Fields, NoField, FieldThen, object_fields, Fills, Nothing, OneMore, FieldBegins, IsCutShort, told, IsRefused, end_of_field, HasMore, IsFirstObjectFault, IsTruncated}
 use Rattle.object_file.proofs.Numbers.{IsBytes}
 use Rattle.object_file.proofs.ObjectLaws.{parts_read, parts_again}
 use Rattle.object_file.proofs.FieldLaws.{reading, parts_same}
@@ -177,12 +173,9 @@ IsInField bytes (BadField p) = IsRefused bytes (BadField p)
 IsInField bytes Memory = ⊥
 
 in_field-first : (bytes : List ℕ) (e : DecodeError) → IsInField bytes e → IsFirstObjectFault bytes e
-in_field-first bytes (Truncated p) h = h
 in_field-first bytes (TrailingBytes p) h = absurd h
-in_field-first bytes BadMagic h = h
-in_field-first bytes (BadVersion version) h = h
-in_field-first bytes (BadField p) h = h
 in_field-first bytes Memory h = absurd h
+in_field-first bytes other h = h
 
 told-in_field : (bytes : List ℕ) (telling : Telling) (p : ℕ) (text : List ℕ) → IsRefused bytes (told telling p text)
     → IsInField bytes (told telling p text)

@@ -3,21 +3,17 @@ use Rattle.std.proofs.Common.{◌≡◌, ℕ, zero, suc, Bool, true, false, cond
 use Rattle.std.specs.Prelude.{◌||◌, ◌==◌}
 use Rattle.byteorder.specs.Endian.{little_number}
 use Rattle.byteorder.specs.Numbers.{little_from-take}
-use Rattle.gr_base.specs.Results.{◌>>=◌}
+use Rattle.gr_base.specs.Prelude.{◌>>=◌}
 use Rattle.lt_isa.specs.declared.profiles.Profile.{Profile}
 use Rattle.lt_isa.specs.declared.profiles.BankSpec.{BankSpec}
 use Rattle.lt_isa.specs.declared.symbols.Symbol.{Symbol}
 use Rattle.lt_isa.specs.declared.symbols.Note.{Note}
 use Rattle.lt_isa.specs.declared.instruction_table.Kind.{Kind}
 use Rattle.lt_isa.specs.declared.instruction_table.Kind.TheVariants.{Nop}
-use Rattle.lt_isa.specs.InstructionTable.{kind_named}
-use Rattle.lt_isa.specs.Ranges.{is_slot_claim}
+use Rattle.lt_isa.specs.Prelude.{kind_named, is_slot_claim}
 use Rattle.object_file.specs.declared.errors.DecodeError.{DecodeError}
 use Rattle.object_file.specs.declared.errors.DecodeError.TheVariants.{Truncated, BadMagic, BadVersion, BadField}
-use Rattle.object_file.specs.Spelling.{magic}
-use Rattle.object_file.specs.Reading.{Read, place, number_at, field_at, items_at, list_at, magic_at, version_at, cycles_at, window_at, profile_at, bank_at, name_bytes_at, name_at, symbol_at, slots_at, note_at, known, kind_at, instruction_at, banks_at, symbols_at, notes_at, code_at, parts_at}
-use Rattle.object_file.specs.Fields.{Telling, NoObject, Version, Place, Fields, NoField, FieldThen, followed, number_told, number_field, items_fields, list_fields, magic_field, version_field, cycles_fields, window_fields, profile_fields, bank_fields, name_fields, symbol_fields, note_fields, operand_fields, instruction_fields, object_fields}
-use Rattle.object_file.specs.FirstFaults.{told}
+use Rattle.object_file.specs.Prelude.{magic, Read, place, number_at, field_at, items_at, list_at, magic_at, version_at, cycles_at, window_at, profile_at, bank_at, name_bytes_at, name_at, symbol_at, slots_at, note_at, known, kind_at, instruction_at, banks_at, symbols_at, notes_at, code_at, parts_at, Telling, NoObject, Version, Place, Fields, NoField, FieldThen, followed, number_told, number_field, items_fields, list_fields, magic_field, version_field, cycles_fields, window_fields, profile_fields, bank_fields, name_fields, symbol_fields, note_fields, operand_fields, instruction_fields, object_fields, told}
 
 -- the value of some fields and the bytes after them, or the first error
 abbrev pub reading : {X : Type 0} → Fields X → ℕ → List ℕ → Read X

@@ -6,14 +6,11 @@ use Rattle.std.proofs.lemmas.List.{append-nil}
 use Rattle.byteorder.specs.Endian.{little_number}
 use Rattle.lt_isa.specs.declared.profiles.Profile.{Profile}
 use Rattle.lt_isa.specs.declared.profiles.BankSpec.{BankSpec}
-use Rattle.gr_base.specs.Lists.{Within, EachAfter}
-use Rattle.lt_isa.specs.Limits.{most_blocks}
+use Rattle.gr_base.specs.Prelude.{Within, EachAfter}
+use Rattle.lt_isa.specs.Prelude.{most_blocks, ProfileFits, BankFits, HasUnitPeriod}
 use Rattle.lt_isa.proofs.SymbolPlaces.{most_blocks-le}
-use Rattle.lt_isa.specs.Ranges.{ProfileFits, BankFits}
-use Rattle.lt_isa.specs.Windows.{HasUnitPeriod}
 use Rattle.lt_isa.proofs.Windows.{by_window, windowed, opened, opened-is, IsWindowed, windowed-fits}
-use Rattle.object_file.specs.Spelling.{number, listed, magic, cycles, window, profile, bank}
-use Rattle.object_file.specs.Reading.{magic_at, version_at, cycles_at, window_at, profile_at, bank_at, banks_at}
+use Rattle.object_file.specs.Prelude.{number, listed, magic, cycles, window, profile, bank, magic_at, version_at, cycles_at, window_at, profile_at, bank_at, banks_at}
 use Rattle.object_file.proofs.Numbers.{IsBytes}
 use Rattle.gr_base.proofs.Results.{IfRead, read_ok, read_then, read_if, read_weaker}
 use Rattle.object_file.proofs.Readers.{Takes, Takes-then, Found, IsReader, number_read, number_again, range}

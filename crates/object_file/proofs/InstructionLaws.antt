@@ -6,23 +6,21 @@ use Rattle.std.proofs.Math.Facts.{sfits_to_z, Fits-of_z}
 use Rattle.std.proofs.lemmas.Nat.{pow_pos}
 use Rattle.std.proofs.lemmas.Int.{to_z-of_z, of_z-to_z}
 use Rattle.lt_isa.specs.declared.instructions.Instr.{Instr}
-use Rattle.lt_isa.specs.declared.instructions.Instr.TheVariants as instr
 use Rattle.lt_isa.specs.declared.instruction_table.Kind.{Kind}
 use Rattle.lt_isa.specs.declared.instruction_table.Kind.TheVariants.{Nop, Halt, Li, Ldb, Stb, Idb, Ldw, Stw, Jmp, Alu, Br}
 use Rattle.lt_isa.specs.declared.instruction_table.Operand.{Operand}
 use Rattle.lt_isa.specs.declared.instruction_table.Operand.TheVariants.{Unused, Register, Slot, Bank}
 use Rattle.lt_isa.specs.declared.instruction_table.Operands.{Operands}
 use Rattle.lt_isa.specs.declared.instruction_table.Limits.{Limits}
-use Rattle.lt_isa.specs.InstructionTable.{opcode_of, kind_named, format_of, limits_of, most_bits, most_operand, kind_of, operands_of, instruction_of}
+use Rattle.lt_isa.specs.Prelude.{opcode_of, kind_named, format_of, limits_of, most_bits, most_operand, kind_of, operand_numbers, operands_of, instruction_of, InstrFits}
 use Rattle.lt_isa.proofs.InstructionTable.{opcode_of_named, kind_of_opcode, opcode_of-lt, instruction_again as instruction_again_of}
-use Rattle.gr_base.specs.Lists.{Within, is_within}
-use Rattle.lt_isa.specs.Ranges.{InstrFits}
-use Rattle.object_file.specs.Spelling.{number, listed, instruction}
-use Rattle.object_file.specs.Reading.{place, field_at, known, kind_at, instruction_at, code_at}
+use Rattle.gr_base.specs.Prelude.{Within, is_within}
+use Rattle.object_file.specs.Prelude.{number, listed, instruction, place, field_at, known, kind_at, instruction_at, code_at}
 use Rattle.object_file.proofs.Numbers.{IsBytes}
 use Rattle.gr_base.proofs.Results.{IfRead, read_ok, read_err, read_then, read_weaker}
 use Rattle.object_file.proofs.Readers.{Takes, Takes-then, Found, IsReader, number_read, number_again, range}
 use Rattle.object_file.proofs.ListLaws.{list, All-EachAfter, EachAfter-All}
+use Rattle.lt_isa.specs.declared.instructions.Instr.TheVariants as instr
 
 kind_read : (all : ℕ) (bytes : List ℕ) → IsBytes bytes
     → IfRead (kind_at all bytes) (λ x. Takes bytes (number 1 (opcode_of x.0)) x.1)
@@ -73,18 +71,14 @@ operands_of-made banks Halt a b c offset constant h =
     refl
 operands_of-made banks Li a b c offset constant h =
     rw (none b h.b_fits, none c h.c_fits, none offset h.offset_fits) refl
-operands_of-made banks Ldb a b c offset constant h = rw (none offset h.offset_fits, none constant h.constant_fits) refl
 operands_of-made banks Stb a b c offset constant h =
     rw (none b h.b_fits, none c h.c_fits, none offset h.offset_fits, none constant h.constant_fits) refl
 operands_of-made banks Idb a b c offset constant h =
     rw (none c h.c_fits, none offset h.offset_fits, none constant h.constant_fits) refl
-operands_of-made banks Ldw a b c offset constant h = rw (none offset h.offset_fits, none constant h.constant_fits) refl
-operands_of-made banks Stw a b c offset constant h = rw (none offset h.offset_fits, none constant h.constant_fits) refl
 operands_of-made banks Jmp a b c offset constant h =
     rw (none a h.a_fits, none b h.b_fits, none c h.c_fits, none constant h.constant_fits) refl
-operands_of-made banks (Alu op) a b c offset constant h =
-    rw (none offset h.offset_fits, none constant h.constant_fits) refl
 operands_of-made banks (Br cmp) a b c offset constant h = rw (none c h.c_fits, none constant h.constant_fits) refl
+operands_of-made banks other a b c offset constant h = rw (none offset h.offset_fits, none constant h.constant_fits) refl
 
 is_offset : (n : ℕ) → n ≤ 2 ^ 32 - 1 → FitsSigned w32 (cast_signed w32 n)
 is_offset n h = sfits_to_z (record { fits = omega arith })
@@ -97,19 +91,13 @@ made-fits : (banks : ℕ) (kind : Kind) (a b c offset constant : ℕ) → 2 ≤ 
 made-fits banks Nop a b c offset constant some h = tt
 made-fits banks Halt a b c offset constant some h = tt
 made-fits banks Li a b c offset constant some h = (omega (arith, h.a_fits), is_word constant h.constant_fits)
-made-fits banks Ldb a b c offset constant some h =
-    (omega (arith, h.a_fits), omega (arith, h.b_fits), omega (arith, h.c_fits))
 made-fits banks Stb a b c offset constant some h = omega (arith, h.a_fits)
 made-fits banks Idb a b c offset constant some h = (omega (arith, h.a_fits), omega (arith, h.b_fits))
-made-fits banks Ldw a b c offset constant some h =
-    (omega (arith, h.a_fits), omega (arith, h.b_fits), omega (arith, h.c_fits))
-made-fits banks Stw a b c offset constant some h =
-    (omega (arith, h.a_fits), omega (arith, h.b_fits), omega (arith, h.c_fits))
 made-fits banks Jmp a b c offset constant some h = is_offset offset h.offset_fits
-made-fits banks (Alu op) a b c offset constant some h =
-    (omega (arith, h.a_fits), omega (arith, h.b_fits), omega (arith, h.c_fits))
 made-fits banks (Br cmp) a b c offset constant some h =
     (omega (arith, h.a_fits), omega (arith, h.b_fits), is_offset offset h.offset_fits)
+made-fits banks other a b c offset constant some h =
+    (omega (arith, h.a_fits), omega (arith, h.b_fits), omega (arith, h.c_fits))
 
 kind_of-made : (kind : Kind) (x : Operands) → kind_of (instruction_of kind x) ≡ kind
 kind_of-made Nop x = refl
@@ -139,29 +127,24 @@ offset_below z h = omega (arith, (Fits-of_z {w = w32} {z = z} h).fits)
 word_below : (z : ℤ) → FitsSigned w64 z → cast_unsigned w64 z ≤ 2 ^ 64 - 1
 word_below z h = omega (arith, (Fits-of_z {w = w64} {z = z} h).fits)
 
+-- the operands of an instruction without an offset and a constant
+numbers_fit : (banks : ℕ) (kind : Kind) (a b c : ℕ) → a ≤ (limits_of banks kind).a → b ≤ (limits_of banks kind).b
+    → c ≤ (limits_of banks kind).c → AreFields banks kind (operand_numbers a b c)
+numbers_fit banks kind a b c low_a low_b low_c = record {
+  offset_fits = zero_fits w32;
+  constant_fits = zero_fits w64;
+  operands = record {
+    a_fits = low_a;
+    b_fits = low_b;
+    c_fits = low_c;
+    offset_fits = omega arith;
+    constant_fits = omega arith;
+  };
+}
+
 fields_fit : (banks : ℕ) (i : Instr) → InstrFits banks i → AreFields banks (kind_of i) (operands_of i)
-fields_fit banks instr.Nop h = record {
-  offset_fits = zero_fits w32;
-  constant_fits = zero_fits w64;
-  operands = record {
-    a_fits = omega arith;
-    b_fits = omega arith;
-    c_fits = omega arith;
-    offset_fits = omega arith;
-    constant_fits = omega arith;
-  };
-}
-fields_fit banks instr.Halt h = record {
-  offset_fits = zero_fits w32;
-  constant_fits = zero_fits w64;
-  operands = record {
-    a_fits = omega arith;
-    b_fits = omega arith;
-    c_fits = omega arith;
-    offset_fits = omega arith;
-    constant_fits = omega arith;
-  };
-}
+fields_fit banks instr.Nop h = numbers_fit banks Nop 0 0 0 (omega arith) (omega arith) (omega arith)
+fields_fit banks instr.Halt h = numbers_fit banks Halt 0 0 0 (omega arith) (omega arith) (omega arith)
 fields_fit banks (instr.Li rd value) h = record {
   offset_fits = zero_fits w32;
   constant_fits = h.1;
@@ -173,72 +156,17 @@ fields_fit banks (instr.Li rd value) h = record {
     constant_fits = word_below value h.1;
   };
 }
-fields_fit banks (instr.Alu op rd ra rb) h = record {
-  offset_fits = zero_fits w32;
-  constant_fits = zero_fits w64;
-  operands = record {
-    a_fits = omega (arith, h.0);
-    b_fits = omega (arith, h.1);
-    c_fits = omega (arith, h.2);
-    offset_fits = omega arith;
-    constant_fits = omega arith;
-  };
-}
-fields_fit banks (instr.Ldb k b r) h = record {
-  offset_fits = zero_fits w32;
-  constant_fits = zero_fits w64;
-  operands = record {
-    a_fits = omega (arith, h.0);
-    b_fits = omega (arith, h.1);
-    c_fits = omega (arith, h.2);
-    offset_fits = omega arith;
-    constant_fits = omega arith;
-  };
-}
-fields_fit banks (instr.Stb k) h = record {
-  offset_fits = zero_fits w32;
-  constant_fits = zero_fits w64;
-  operands = record {
-    a_fits = omega arith;
-    b_fits = omega arith;
-    c_fits = omega arith;
-    offset_fits = omega arith;
-    constant_fits = omega arith;
-  };
-}
-fields_fit banks (instr.Idb rd k) h = record {
-  offset_fits = zero_fits w32;
-  constant_fits = zero_fits w64;
-  operands = record {
-    a_fits = omega (arith, h.0);
-    b_fits = omega (arith, h.1);
-    c_fits = omega arith;
-    offset_fits = omega arith;
-    constant_fits = omega arith;
-  };
-}
-fields_fit banks (instr.Ldw rd k ro) h = record {
-  offset_fits = zero_fits w32;
-  constant_fits = zero_fits w64;
-  operands = record {
-    a_fits = omega (arith, h.0);
-    b_fits = omega (arith, h.1);
-    c_fits = omega (arith, h.2);
-    offset_fits = omega arith;
-    constant_fits = omega arith;
-  };
-}
-fields_fit banks (instr.Stw rs k ro) h = record {
-  offset_fits = zero_fits w32;
-  constant_fits = zero_fits w64;
-  operands = record {
-    a_fits = omega (arith, h.0);
-    b_fits = omega (arith, h.1);
-    c_fits = omega (arith, h.2);
-    offset_fits = omega arith;
-    constant_fits = omega arith;
-  };
-}
+fields_fit banks (instr.Alu op rd ra rb) h =
+    numbers_fit banks (Alu op) rd ra rb (omega (arith, h.0)) (omega (arith, h.1)) (omega (arith, h.2))
+fields_fit banks (instr.Ldb k b r) h =
+    numbers_fit banks Ldb k b r (omega (arith, h.0)) (omega (arith, h.1)) (omega (arith, h.2))
+fields_fit banks (instr.Stb k) h = numbers_fit banks Stb k 0 0 (omega (arith, h)) (omega arith) (omega arith)
+fields_fit banks (instr.Idb rd k) h =
+    numbers_fit banks Idb rd k 0 (omega (arith, h.0)) (omega (arith, h.1)) (omega arith)
+fields_fit banks (instr.Ldw rd k ro) h =
+    numbers_fit banks Ldw rd k ro (omega (arith, h.0)) (omega (arith, h.1)) (omega (arith, h.2))
+fields_fit banks (instr.Stw rs k ro) h =
+    numbers_fit banks Stw rs k ro (omega (arith, h.0)) (omega (arith, h.1)) (omega (arith, h.2))
 fields_fit banks (instr.Jmp offset) h = record {
   offset_fits = h;
   constant_fits = zero_fits w64;
@@ -272,10 +200,8 @@ record AreSmall (most : Limits) : Type 0 where
   pub constant_below : most.constant < 256 ^ 8
 
 operand_small : (banks : ℕ) (operand : Operand) → banks ≤ 10 → most_operand banks operand < 256 ^ 1
-operand_small banks Unused few = omega arith
-operand_small banks Register few = omega arith
-operand_small banks Slot few = omega arith
 operand_small banks Bank few = omega (arith, few)
+operand_small banks other few = omega arith
 
 offset_small : (used : Bool) → most_bits 32 used < 256 ^ 4
 offset_small true = omega arith

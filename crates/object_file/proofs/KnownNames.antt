@@ -8,10 +8,9 @@ use Rattle.std.specs.BTreeSet.{BTreeSet, contains}
 use Rattle.std.proofs.lemmas.List.Folds.{list_all-append}
 use Rattle.std.proofs.lemmas.Map.Text.{is_eq-slice_cmp}
 use Rattle.gr_base.proofs.NameMaps.{key_cmp}
-use Rattle.gr_word.specs.Names.{is_name}
+use Rattle.gr_word.specs.Prelude.{is_name}
 use Rattle.lt_isa.specs.declared.symbols.Symbol.{Symbol}
-use Rattle.object_file.specs.FieldRules.{is_new_name}
-use Rattle.object_file.specs.KnownNames.{has_name, GainsName, AreNamesOf}
+use Rattle.object_file.specs.Prelude.{is_new_name, has_name, GainsName, AreNamesOf}
 
 -- a name that was added
 pub gains_name : (m n : BTreeSet (Bor (List ℕ))) (k : Bor (List ℕ))

@@ -3,9 +3,8 @@ use Rattle.std.proofs.Common.{◌≡◌, ℕ, zero, suc, ◌^◌, ◌<◌, List,
 use Rattle.std.specs.Prelude.{All}
 use Rattle.std.proofs.lemmas.List.{append-nil}
 use Rattle.std.proofs.lemmas.List.Elements.{All-nil, All-cons, All-head, All-tail}
-use Rattle.gr_base.specs.Lists.{Within, EachAfter, is_within}
-use Rattle.object_file.specs.Spelling.{number, listed}
-use Rattle.object_file.specs.Reading.{Read, items_at, list_at}
+use Rattle.gr_base.specs.Prelude.{Within, EachAfter, is_within}
+use Rattle.object_file.specs.Prelude.{number, listed, Read, items_at, list_at}
 use Rattle.object_file.proofs.Numbers.{IsBytes}
 use Rattle.gr_base.proofs.Results.{IfRead, read_ok, read_then}
 use Rattle.object_file.proofs.Readers.{Takes, Takes-then, IsReader, range}

@@ -1,7 +1,7 @@
 -- Reading items in sequence, as a loop does.
 use Rattle.std.proofs.Common.{◌≡◌, ℕ, suc, ◌-◌, ◌+◌, ◌≤◌, ◌<◌, List, [], ◌∷◌, ◌++◌, Ok, Err, refl, sym, ◌∙◌, arith}
 use Rattle.object_file.specs.declared.errors.DecodeError.{DecodeError}
-use Rattle.object_file.specs.Reading.{Read, Fails, items_at}
+use Rattle.object_file.specs.Prelude.{Read, Fails, items_at}
 
 module _ {X : Type 0} (read : List X → List ℕ → Read X) (count i : ℕ) (before : List X) (bytes : List ℕ)
     (total : Read (List X)) where

@@ -3,13 +3,11 @@ use Rattle.std.proofs.Common.{◌≡◌, ◌≢◌, ℕ, true, List, ◌++◌, l
 use Rattle.std.specs.Prelude.{All, IsTrue}
 use Rattle.std.proofs.lemmas.Bool.{ltb-false, le-ltb, leb-true, and_parts, and_from}
 use Rattle.std.proofs.lemmas.List.{take_at, drop_at, take-append-drop, length-append, length-take-le}
-use Rattle.gr_word.specs.Names.{is_name}
+use Rattle.gr_word.specs.Prelude.{is_name}
 use Rattle.lt_isa.specs.declared.symbols.Symbol.{Symbol}
-use Rattle.gr_base.specs.Lists.{Within}
+use Rattle.gr_base.specs.Prelude.{Within}
 use Rattle.lt_isa.proofs.OtherNames.{others, pass_others}
-use Rattle.object_file.specs.Spelling.{name}
-use Rattle.object_file.specs.FieldRules.{is_new_name}
-use Rattle.object_file.specs.Reading.{name_bytes_at, name_at}
+use Rattle.object_file.specs.Prelude.{name, is_new_name, name_bytes_at, name_at}
 use Rattle.object_file.proofs.Numbers.{IsBytes, IsBytes-drop}
 use Rattle.gr_base.proofs.Results.{IfRead, read_then, read_if, read_unless}
 use Rattle.object_file.proofs.Readers.{Takes, Takes-then, IsReader, range}

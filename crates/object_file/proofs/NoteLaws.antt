@@ -3,10 +3,9 @@ use Rattle.std.proofs.Common.{◌≡◌, ℕ, ◌-◌, ◌^◌, ◌<◌, ◌≤�
 use Rattle.std.specs.Prelude.{All, IsTrue}
 use Rattle.std.proofs.lemmas.Bool.{or_cases, ltb-true, eqb-true}
 use Rattle.lt_isa.specs.declared.symbols.Note.{Note}
-use Rattle.gr_base.specs.Lists.{Within, EachAfter}
-use Rattle.lt_isa.specs.Ranges.{NoteFits, next_place, is_slot_claim}
-use Rattle.object_file.specs.Spelling.{number, listed, note}
-use Rattle.object_file.specs.Reading.{field_at, slots_at, note_at, notes_at}
+use Rattle.gr_base.specs.Prelude.{Within, EachAfter}
+use Rattle.lt_isa.specs.Prelude.{NoteFits, next_place, is_slot_claim}
+use Rattle.object_file.specs.Prelude.{number, listed, note, field_at, slots_at, note_at, notes_at}
 use Rattle.object_file.proofs.Numbers.{IsBytes}
 use Rattle.gr_base.proofs.Results.{IfRead, read_ok, read_then, read_weaker}
 use Rattle.object_file.proofs.Readers.{Takes, Takes-then, IsReader, field_read, field_again, numbers, range}

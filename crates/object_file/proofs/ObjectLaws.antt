@@ -5,14 +5,11 @@ use Rattle.std.proofs.lemmas.Bool.{eqb-true}
 use Rattle.std.proofs.lemmas.Nat.{pow_pos}
 use Rattle.std.proofs.lemmas.List.{append-nil, nil_from_length}
 use Rattle.lt_isa.specs.declared.profiles.BankSpec.{BankSpec}
-use Rattle.lt_isa.specs.Object.{Parts}
-use Rattle.gr_base.specs.Lists.{Within, EachAfter}
-use Rattle.lt_isa.specs.Ranges.{BankFits, IsInRange, next_place}
+use Rattle.lt_isa.specs.Prelude.{Parts, BankFits, IsInRange, next_place}
+use Rattle.gr_base.specs.Prelude.{Within, EachAfter, ◌>>=◌}
 use Rattle.object_file.specs.declared.errors.DecodeError.{DecodeError}
 use Rattle.object_file.specs.declared.errors.DecodeError.TheVariants.{Truncated, BadMagic, BadVersion, BadField, TrailingBytes, Memory}
-use Rattle.object_file.specs.Spelling.{spelling}
-use Rattle.object_file.specs.Reading.{Decodes, ended, parts_at, object_at, decoded}
-use Rattle.gr_base.specs.Results.{◌>>=◌}
+use Rattle.object_file.specs.Prelude.{spelling, Decodes, ended, parts_at, object_at, decoded}
 use Rattle.object_file.proofs.Numbers.{IsBytes}
 use Rattle.gr_base.proofs.Results.{IfRead, read_ok, read_then, read_if}
 use Rattle.object_file.proofs.Readers.{Takes-then}
@@ -124,11 +121,7 @@ is_found bytes (Err e) fits gives = tt
 no_fault : (e : DecodeError) (o : Parts) (read : Result Parts DecodeError) → read ≡ Ok o
     → (e ≢ Memory → read ≡ Err e) → e ≡ Memory
 no_fault Memory o read here fails = refl
-no_fault (Truncated at) o read here fails = absurd (let bad = fails (λ same. cc) in cc)
-no_fault BadMagic o read here fails = absurd (let bad = fails (λ same. cc) in cc)
-no_fault (BadVersion version) o read here fails = absurd (let bad = fails (λ same. cc) in cc)
-no_fault (BadField at) o read here fails = absurd (let bad = fails (λ same. cc) in cc)
-no_fault (TrailingBytes at) o read here fails = absurd (let bad = fails (λ same. cc) in cc)
+no_fault other o read here fails = absurd (let bad = fails (λ same. cc) in cc)
 
 -- an object whose encoding the bytes are is found
 pub is_only : (bytes : List ℕ) (r : Result Parts DecodeError) (o : Parts) → IsInRange o → bytes ≡ spelling o

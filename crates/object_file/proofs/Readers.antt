@@ -4,11 +4,10 @@ use Rattle.std.proofs.lemmas.Bool.{ltb-false, le-ltb}
 use Rattle.std.proofs.lemmas.List.{drop_at, take-append-drop, length-append, length-take-le}
 use Rattle.byteorder.specs.Endian.{little_number, little_bytes}
 use Rattle.byteorder.specs.Numbers.{little_from-take, little_from-lt, little_number-reads_back, length-bytes_low_first}
-use Rattle.gr_base.specs.Lists.{Within, is_within}
-use Rattle.object_file.specs.Spelling.{number}
+use Rattle.gr_base.specs.Prelude.{Within, is_within}
+use Rattle.object_file.specs.Prelude.{number, Read, number_at, field_at}
 use Rattle.gr_base.proofs.ListTests.{Within-is_within, is_within-Within}
 use Rattle.gr_base.proofs.Results.{IfRead, read_ok, read_then, read_if, read_unless, read_weaker}
-use Rattle.object_file.specs.Reading.{Read, number_at, field_at}
 use Rattle.object_file.proofs.Numbers.{IsBytes, IsBytes-drop, IsBytes-take, little_bytes-little_number}
 
 -- the bytes are this text and then the rest

@@ -8,10 +8,9 @@ use Rattle.lt_isa.specs.declared.profiles.BankSpec.{BankSpec}
 use Rattle.lt_isa.specs.declared.symbols.Symbol.{Symbol}
 use Rattle.lt_isa.specs.declared.symbols.Note.{Note}
 use Rattle.lt_isa.specs.declared.instructions.Instr.{Instr}
-use Rattle.lt_isa.specs.Object.{Parts, block_words}
-use Rattle.gr_base.specs.Lists.{EachAfter}
-use Rattle.lt_isa.specs.Ranges.{BankFits, SymbolFits, NoteFits, InstrFits, IsInRange}
-use Rattle.object_file.specs.Spelling.{number, listed, cycles, window, profile, bank, name, symbol, note, instruction, spelling}
+use Rattle.lt_isa.specs.Prelude.{Parts, block_words, BankFits, SymbolFits, NoteFits, InstrFits, IsInRange}
+use Rattle.gr_base.specs.Prelude.{EachAfter}
+use Rattle.object_file.specs.Prelude.{number, listed, cycles, window, profile, bank, name, symbol, note, instruction, spelling}
 use Rattle.object_file.proofs.ListLaws.{EachAfter-All}
 use Rattle.object_file.proofs.NameLaws.{length-name}
 

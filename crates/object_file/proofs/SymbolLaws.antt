@@ -6,14 +6,10 @@ use Rattle.gr_word.specs.declared.variables.Shape.{Shape}
 use Rattle.gr_word.specs.declared.variables.Shape.TheVariants.{Scalar, Array}
 use Rattle.lt_isa.specs.declared.profiles.BankSpec.{BankSpec}
 use Rattle.lt_isa.specs.declared.symbols.Symbol.{Symbol}
-use Rattle.lt_isa.specs.Object.{first_word}
-use Rattle.gr_base.specs.Lists.{Within, EachAfter, is_within}
-use Rattle.lt_isa.specs.SymbolPlaces.{last_bank, blocks_in, first_free_word, most_length}
+use Rattle.lt_isa.specs.Prelude.{first_word, last_bank, blocks_in, first_free_word, most_length, SymbolFits, total_length}
+use Rattle.gr_base.specs.Prelude.{Within, EachAfter, is_within}
 use Rattle.lt_isa.proofs.SymbolPlaces.{most_length-le, lies_by_fields, fields_of_lies}
-use Rattle.lt_isa.specs.Ranges.{SymbolFits, total_length}
-use Rattle.object_file.specs.Spelling.{number, listed, symbol, label_code, shape_code}
-use Rattle.object_file.specs.FieldRules.{label_numbered, shape_numbered, most_length_behind}
-use Rattle.object_file.specs.Reading.{field_at, symbol_at, symbols_at}
+use Rattle.object_file.specs.Prelude.{number, listed, symbol, label_code, shape_code, label_numbered, shape_numbered, most_length_behind, field_at, symbol_at, symbols_at}
 use Rattle.object_file.proofs.Numbers.{IsBytes}
 use Rattle.gr_base.proofs.Results.{IfRead, read_ok, read_then}
 use Rattle.object_file.proofs.Readers.{Takes, Takes-then, Found, IsReader, range}

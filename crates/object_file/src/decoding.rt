@@ -1,6 +1,5 @@
 ghost use Rattle.std.specs.Prelude.{◌≡◌, ◌≢◌, ◌≤◌, length, IfErr, IfOk, MatchResult};
-ghost use Rattle.lt_isa.specs.Object.{Parts};
-ghost use Rattle.lt_isa.specs.Ranges.{IsInRange};
+ghost use Rattle.lt_isa.specs.Prelude.{Parts, IsInRange};
 ghost use Rattle.object_file.specs.Spelling.{spelling};
 ghost use Rattle.object_file.specs.Reading.{Decodes, object_at, decoded};
 ghost use Rattle.object_file.specs.FirstFaults.{IsFirstObjectFault};

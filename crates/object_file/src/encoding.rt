@@ -1,5 +1,5 @@
 ghost use Rattle.std.specs.Prelude.{◌≡◌, ◌<◌, ◌≤◌, ◌^◌, ◌++◌, length, OnOk, IfOk, flat_map};
-ghost use Rattle.lt_isa.specs.Ranges.{IsInRange};
+ghost use Rattle.lt_isa.specs.Prelude.{IsInRange};
 ghost use Rattle.object_file.specs.Spelling.{number, magic, listed, spelling, cycles, window, profile, bank, name, symbol, note, opcode_and_operands, instruction, label_code, shape_code};
 
 use crate::header::{ALWAYS_OPEN, HEADER_BYTES, MAGIC, WINDOWED};

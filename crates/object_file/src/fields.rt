@@ -1,6 +1,5 @@
 ghost use Rattle.std.specs.Prelude.{◌≡◌, IfOk};
-ghost use Rattle.gr_base.specs.Lists.{Within};
-ghost use Rattle.gr_base.specs.Lists.{is_within};
+ghost use Rattle.gr_base.specs.Prelude.{Within, is_within};
 ghost use Rattle.object_file.specs.Reading.{Decodes, place, number_at, field_at};
 
 use crate::errors::DecodeError;

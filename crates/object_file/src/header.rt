@@ -1,5 +1,5 @@
 ghost use Rattle.std.specs.Prelude.{◌≡◌, ◌≤◌, ◌==◌, ◌||◌, [], length, IfOk, vec_len};
-ghost use Rattle.lt_isa.specs.Limits.{most_banks, most_block_log};
+ghost use Rattle.lt_isa.specs.Prelude.{most_banks, most_block_log};
 ghost use Rattle.object_file.specs.Reading.{Decodes, magic_at, version_at, cycles_at, window_at, profile_at, bank_at, items_at, banks_at};
 
 use crate::errors::DecodeError;

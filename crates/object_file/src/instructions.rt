@@ -1,6 +1,6 @@
 ghost use Rattle.std.specs.Prelude.{◌≡◌, ◌<◌, ◌≤◌, ℕ, [], drop, length, IfSome, Some, Ok};
 ghost use Rattle.byteorder.specs.Endian.{little_number};
-ghost use Rattle.lt_isa.specs.InstructionTable.{kind_named};
+ghost use Rattle.lt_isa.specs.Prelude.{kind_named};
 ghost use Rattle.object_file.specs.Reading.{Decodes, kind_at, instruction_at, items_at, code_at};
 
 use crate::errors::DecodeError;

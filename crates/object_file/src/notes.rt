@@ -1,6 +1,6 @@
 ghost use Rattle.std.specs.Prelude.{◌≡◌, [], length};
 ghost use Rattle.object_file.specs.Reading.{Decodes, field_at, slots_at, note_at, items_at, notes_at};
-ghost use Rattle.lt_isa.specs.Ranges.{is_slot_claim};
+ghost use Rattle.lt_isa.specs.Prelude.{is_slot_claim};
 
 use crate::errors::DecodeError;
 use crate::fields::{offset_of, u8_at, u32_at, u32_field};

@@ -1,7 +1,6 @@
 ghost use Rattle.std.specs.Prelude.{◌≡◌, ◌≤◌, ◌-◌, ◌∷◌, ◌++◌, [], IfErr, IfOk, IsTrue};
-ghost use Rattle.gr_word.specs.Names.{is_name};
-ghost use Rattle.lt_isa.specs.Limits.{most_symbol_words};
-ghost use Rattle.lt_isa.specs.Ranges.{total_length};
+ghost use Rattle.gr_word.specs.Prelude.{is_name};
+ghost use Rattle.lt_isa.specs.Prelude.{most_symbol_words, total_length};
 ghost use Rattle.object_file.specs.declared.errors.DecodeError.TheVariants.{Memory};
 ghost use Rattle.object_file.specs.FieldRules.{is_new_name, label_numbered, shape_numbered, most_length_behind};
 ghost use Rattle.object_file.specs.KnownNames.{AreNamesOf, GainsName};

@@ -1,11 +1,7 @@
 -- What is proved of the trace of a machine that has just begun is proved of the object's run on the inputs.
 use Rattle.std.proofs.Common.{◌≡◌, ℕ, ℤ, List, Result, IfOk, refl, ap, ◌∙◌, subst}
-use Rattle.lt_isa.specs.Machine.{State}
-use Rattle.lt_isa.specs.Object.{Parts}
-use Rattle.lt_isa.specs.Start.{start_state, trace}
-use Rattle.lt_isa.specs.Trace.{trace_from}
-use Rattle.object_tools.specs.Comparing.{Compares}
-use Rattle.object_tools.specs.Counting.{CountsEvents}
+use Rattle.lt_isa.specs.Prelude.{State, Parts, start_state, trace, trace_from}
+use Rattle.object_tools.specs.Prelude.{Compares, CountsEvents}
 use Rattle.object_tools.specs.declared.comparing.Comparison.{Comparison}
 use Rattle.object_tools.specs.declared.counting.Tally.{Tally}
 

@@ -1,8 +1,8 @@
 -- Unless the status is 4, the sink took the whole text.
 use Rattle.std.proofs.Common.{◌≡◌, ◌≢◌, ◌⊎◌, ℕ, ⊎_elim}
-use Rattle.gr_outside.specs.Sink.{SinkSeen}
-use Rattle.call_steps.specs.Outside.{PutsSaid}
-use Rattle.call_replies.specs.Texts.{Said, no_memory}
+use Rattle.gr_outside.specs.Prelude.{SinkSeen}
+use Rattle.call_steps.specs.Prelude.{PutsSaid}
+use Rattle.call_replies.specs.Prelude.{Said, no_memory}
 
 pub put-calm : (before after : SinkSeen) (said : Said) (status : ℕ) → PutsSaid before after said status
     → status ≢ 4 → after.faults ≡ before.faults

@@ -6,20 +6,15 @@ use Rattle.std.proofs.Math.Seq.{take-append_seam}
 use Rattle.std.proofs.lemmas.List.{append-nil, length-append, get_or-append_right}
 use Rattle.std.proofs.lemmas.List.Elements.{Contains-append_cases, Contains-append_left, Contains-append_right}
 use Rattle.std.proofs.lemmas.Option.{none-some, slice_get-get_or, slice_get_past}
-use Rattle.lt_isa.specs.Machine.{Observed, Halted}
-use Rattle.lt_isa.specs.Trace.{Stamped, HaltsAt, seen_at}
+use Rattle.lt_isa.specs.Prelude.{Observed, Halted, Stamped, HaltsAt, seen_at}
 use Rattle.processor.specs.declared.ends.End.{End}
-use Rattle.processor.specs.declared.ends.End.TheVariants as end
-use Rattle.object_tools.specs.Comparing.{Compares, Ends}
-use Rattle.object_tools.specs.Judging.{Judges}
-use Rattle.object_tools.specs.Recorded.{observed_in, stamped_of}
-use Rattle.object_tools.specs.SoFar.{EqualSoFar, end_after, end_by}
-use Rattle.object_tools.specs.TraceReading.{TakesNext}
+use Rattle.object_tools.specs.Prelude.{Compares, Ends, Judges, observed_in, stamped_of, EqualSoFar, end_after, end_by, TakesNext}
 use Rattle.object_tools.specs.declared.comparing.Comparison.TheVariants.{Equal, Differ}
 use Rattle.object_tools.specs.declared.comparing.Judgement.TheVariants.{Over, Same, Other}
 use Rattle.object_tools.specs.declared.recorder.OwnedEvent.{OwnedEvent}
-use Rattle.object_tools.specs.declared.recorder.OwnedEvent.TheVariants as owned
 use Rattle.object_tools.specs.declared.recorder.Recorded.{Recorded}
+use Rattle.processor.specs.declared.ends.End.TheVariants as end
+use Rattle.object_tools.specs.declared.recorder.OwnedEvent.TheVariants as owned
 
 -- ---- how a run ends that shows one event more
 
@@ -42,13 +37,9 @@ quiet-next done end.Spent at event quiet ends = λ other halts.
 
 ends-by : (done : List Stamped) (before : End) (at : ℕ) (event : OwnedEvent) → Ends done before
     → Ends (done ++ seen_at at (observed_in event) ∷ []) (end_by before at event)
-ends-by done before at (owned.RamRead block words) ends = quiet-next done before at _ (λ e. cc) ends
-ends-by done before at (owned.RamWrite block words) ends = quiet-next done before at _ (λ e. cc) ends
-ends-by done before at (owned.EncRead block) ends = quiet-next done before at _ (λ e. cc) ends
-ends-by done before at (owned.EncWrite block) ends = quiet-next done before at _ (λ e. cc) ends
-ends-by done before at (owned.Oram bank) ends = quiet-next done before at _ (λ e. cc) ends
 ends-by done before at owned.Halt ends =
     Contains-append_right done (seen_at at Halted ∷ []) (seen_at at Halted) (0, omega arith, refl)
+ends-by done before at other ends = quiet-next done before at _ (λ e. cc) ends
 
 pub ends-next : (done : List Stamped) (before : End) (event : Recorded) → Ends done before
     → Ends (done ++ stamped_of event ∷ []) (end_after before event)

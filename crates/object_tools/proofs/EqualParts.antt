@@ -1,9 +1,7 @@
 -- Events are equal exactly where their parts are.
 use Rattle.std.proofs.Common.{◌≡◌, ℕ, zero, suc, ℤ, List, refl, sym, ap, ◌∙◌}
-use Rattle.lt_isa.specs.Machine.{Observed, RamRead, RamWrite, EncRead, EncWrite, Oram, Halted}
-use Rattle.lt_isa.specs.Trace.{Stamped, seen_at}
-use Rattle.object_tools.specs.EventParts.{HaveEqualParts, kind_of, number_of, words_of}
-use Rattle.object_tools.specs.Recorded.{observed_in, stamped_of}
+use Rattle.lt_isa.specs.Prelude.{Observed, RamRead, RamWrite, EncRead, EncWrite, Oram, Halted, Stamped, seen_at}
+use Rattle.object_tools.specs.Prelude.{HaveEqualParts, kind_of, number_of, words_of, observed_in, stamped_of}
 use Rattle.object_tools.specs.declared.recorder.Recorded.{Recorded}
 
 -- the event of these parts

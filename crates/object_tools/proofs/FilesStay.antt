@@ -1,11 +1,8 @@
 -- A verb that stops before a write leaves the files as they were.
 use Rattle.std.proofs.Common.{◌≡◌, ap}
-use Rattle.gr_outside.specs.Shelf.{ShelfSeen}
-use Rattle.call_steps.specs.Outside.{LeavesShelf, OnlyReads}
-use Rattle.call_steps.specs.Progress.{NoRoomLeft, Stops, StopsAt}
-use Rattle.call_steps.specs.Showing.{nothing_seen}
-use Rattle.call_replies.specs.Texts.{Said}
-use Rattle.call_steps.specs.Work.{Ends, Ending, IsTooLong, IsUnread, IsVerdict, IsWritten, Work}
+use Rattle.gr_outside.specs.Prelude.{ShelfSeen}
+use Rattle.call_steps.specs.Prelude.{LeavesShelf, OnlyReads, NoRoomLeft, Stops, StopsAt, nothing_seen, Ends, Ending, IsTooLong, IsUnread, IsVerdict, IsWritten, Work}
+use Rattle.call_replies.specs.Prelude.{Said}
 use Rattle.call_replies.specs.declared.replies.Verdict.TheVariants.{Accepted}
 
 -- a work that follows a read

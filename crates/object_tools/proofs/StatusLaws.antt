@@ -1,13 +1,12 @@
 -- What the statuses of the tools say follows from what their results say.
 use Rattle.std.proofs.Common.{List, ap}
 use Rattle.std.specs.List.{slice_get}
-use Rattle.lt_isa.specs.Trace.{Stamped}
-use Rattle.processor.specs.declared.ends.End.TheVariants as end
+use Rattle.lt_isa.specs.Prelude.{Stamped}
 use Rattle.processor.specs.declared.ends.End.{End}
-use Rattle.object_tools.specs.Comparing.{Compares, Ends}
-use Rattle.object_tools.specs.Statuses.{SaysHalted, SaysOfBoth, SaysOfOne, SaysOther, SaysSpent, RunHalted, RunSpent, comparison_status, end_status}
+use Rattle.object_tools.specs.Prelude.{Compares, Ends, SaysHalted, SaysOfBoth, SaysOfOne, SaysOther, SaysSpent, RunHalted, RunSpent, comparison_status, end_status}
 use Rattle.object_tools.specs.declared.comparing.Comparison.{Comparison}
 use Rattle.object_tools.specs.declared.comparing.Comparison.TheVariants.{Equal, Differ}
+use Rattle.processor.specs.declared.ends.End.TheVariants as end
 
 pub says-of-both : (first second : List Stamped) (comparison : Comparison) → Compares first second comparison
     → SaysOfBoth first second (comparison_status comparison)

@@ -5,18 +5,13 @@ use Rattle.std.proofs.lemmas.Bool.{cases_lt}
 use Rattle.std.proofs.lemmas.Bool.Decides.{eqb_tells}
 use Rattle.std.proofs.lemmas.List.{get_or-set_same, get_or-set_other, length-append, length-set, get_or-replicate, length-replicate}
 use Rattle.std.proofs.lemmas.List.Sums.{count_by-le-length, sum_by_push}
-use Rattle.lt_isa.specs.Machine.{Observed, RamRead, RamWrite, EncRead, EncWrite, Oram, Halted}
-use Rattle.lt_isa.specs.Trace.{Stamped}
-use Rattle.processor.specs.declared.ends.End.TheVariants as end
-use Rattle.call_steps.specs.Counting.{counted, how_many}
-use Rattle.object_tools.specs.Counting.{CountsEvents, CountsOneMore, access_counted, is_oram, is_ram_read, is_ram_write, is_eram_read, is_eram_write, orams_counted}
-use Rattle.object_tools.specs.Comparing.{Ends}
-use Rattle.object_tools.specs.CountedSoFar.{CountedSoFar}
-use Rattle.object_tools.specs.Recorded.{observed_in, stamped_of}
-use Rattle.object_tools.specs.TraceReading.{TakesNext}
+use Rattle.lt_isa.specs.Prelude.{Observed, RamRead, RamWrite, EncRead, EncWrite, Oram, Halted, Stamped}
+use Rattle.call_steps.specs.Prelude.{counted, how_many}
+use Rattle.object_tools.specs.Prelude.{CountsEvents, CountsOneMore, access_counted, is_oram, is_ram_read, is_ram_write, is_eram_read, is_eram_write, orams_counted, Ends, CountedSoFar, observed_in, stamped_of, TakesNext}
 use Rattle.object_tools.specs.declared.counting.Tally.{Tally}
 use Rattle.object_tools.specs.declared.recorder.Recorded.{Recorded}
 use Rattle.object_tools.proofs.Compared.{ends-next}
+use Rattle.processor.specs.declared.ends.End.TheVariants as end
 
 -- one event more of a kind, or of another
 step-by : (b : Bool) (count number : ℕ) → count ≡ number → number + 1 < 2 ^ 32 → counted b count ≡ number + cond b 1 0
@@ -33,16 +28,12 @@ one-more kind count done s is short =
 -- ---- the counts of oblivious banks
 
 length-counted : (event : Observed) (orams : List ℕ) → length (orams_counted event orams) ≡ length orams
-length-counted (RamRead block words) orams = refl
-length-counted (RamWrite block words) orams = refl
-length-counted (EncRead block) orams = refl
-length-counted (EncWrite block) orams = refl
 length-counted (Oram bank) orams = by (nat_lt bank (length orams))
   where
     by : (b : Bool) → length (cond b (set orams bank (counted true (get_or orams bank 0))) orams) ≡ length orams
     by true = length-set orams bank _
     by false = refl
-length-counted Halted orams = refl
+length-counted other orams = refl
 
 access-at : (bank : ℕ) (orams : List ℕ) (b : ℕ) → b < length orams
     → get_or (access_counted bank orams) b 0 ≡ counted (b == bank) (get_or orams b 0)
@@ -66,12 +57,8 @@ access-at bank orams b within =
 
 orams-at : (event : Observed) (orams : List ℕ) (b : ℕ) → b < length orams
     → get_or (orams_counted event orams) b 0 ≡ counted (is_oram b event) (get_or orams b 0)
-orams-at (RamRead block words) orams b within = refl
-orams-at (RamWrite block words) orams b within = refl
-orams-at (EncRead block) orams b within = refl
-orams-at (EncWrite block) orams b within = refl
 orams-at (Oram bank) orams b within = access-at bank orams b within
-orams-at Halted orams b within = refl
+orams-at other orams b within = refl
 
 -- ---- one event more
 

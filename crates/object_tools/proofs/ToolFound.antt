@@ -3,7 +3,7 @@ use Rattle.std.proofs.Common.{◌≡◌, true, List, [], ap}
 use Rattle.clap.proofs.WalkLemmas.{both}
 use Rattle.clap.specs.Words.{App, HasMatchesOf, Text, fault_of, is_simple, is_simple_and_free}
 use Rattle.clap.specs.declared.parser.matches.ArgMatches.{ArgMatches}
-use Rattle.command_words.specs.Options.{IsFound, none_wrong}
+use Rattle.command_words.specs.Prelude.{IsFound, none_wrong}
 use Rattle.std.specs.Prelude.{Some}
 
 pub found_words : (app : App) (words : List Text) (found : ArgMatches) → is_simple_and_free app ≡ true

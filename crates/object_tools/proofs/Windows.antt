@@ -2,20 +2,15 @@
 use Rattle.std.proofs.Common.{◌≡◌, ℕ, ◌≤◌, Bool, true, ◌&&◌, nat_lt, List, [], ◌++◌, map, Ok, sym, ap, ◌∙◌, ⊎_elim, arith, lt-ltb, le-ltb}
 use Rattle.std.proofs.lemmas.Bool.{cases_lt}
 use Rattle.std.proofs.lemmas.List.{append-nil}
-use Rattle.lt_isa.specs.Object.{Parts}
-use Rattle.lt_isa.specs.Machine.{State}
-use Rattle.lt_isa.specs.Ranges.{IsInRange}
-use Rattle.lt_isa.specs.Shape.{IsShaped}
-use Rattle.lt_isa.specs.Trace.{trace_from, final_from}
+use Rattle.lt_isa.specs.Prelude.{Parts, State, IsInRange, IsShaped, trace_from, final_from}
 use Rattle.lt_isa.proofs.Ends.{trace_resumed, trace_halted}
 use Rattle.lt_isa.proofs.Runs.{trace_from-past}
 use Rattle.processor.specs.declared.ends.End.{End}
-use Rattle.processor.specs.declared.ends.End.TheVariants as end
-use Rattle.processor.specs.Ends.{EndsAs, is_spent}
-use Rattle.object_tools.specs.Recorded.{stamped_of}
-use Rattle.object_tools.specs.TraceReading.{ahead, left_to_read}
+use Rattle.processor.specs.Prelude.{EndsAs, is_spent}
+use Rattle.object_tools.specs.Prelude.{stamped_of, ahead, left_to_read}
 use Rattle.object_tools.specs.declared.trace_reader.TraceReader.{TraceReader}
 use Rattle.object_tools.specs.declared.recorder.Recorded.{Recorded}
+use Rattle.processor.specs.declared.ends.End.TheVariants as end
 
 module _ (o : Parts) (range : IsInRange o) (s : State) (shaped : IsShaped o s) (n m : ℕ) (le : n ≤ m) where
   -- what the window shows and what is ahead of it is what was ahead before

@@ -12,44 +12,24 @@ use Rattle.object_tools.specs.declared.recorder.Recorded.{Recorded}
 -- reads and writes of plain memory, and of encrypted memory
 abbrev pub is_ram_read : Observed → Bool
 is_ram_read (RamRead block words) = true
-is_ram_read (RamWrite block words) = false
-is_ram_read (EncRead block) = false
-is_ram_read (EncWrite block) = false
-is_ram_read (Oram bank) = false
-is_ram_read Halted = false
+is_ram_read other = false
 
 abbrev pub is_ram_write : Observed → Bool
-is_ram_write (RamRead block words) = false
 is_ram_write (RamWrite block words) = true
-is_ram_write (EncRead block) = false
-is_ram_write (EncWrite block) = false
-is_ram_write (Oram bank) = false
-is_ram_write Halted = false
+is_ram_write other = false
 
 abbrev pub is_eram_read : Observed → Bool
-is_eram_read (RamRead block words) = false
-is_eram_read (RamWrite block words) = false
 is_eram_read (EncRead block) = true
-is_eram_read (EncWrite block) = false
-is_eram_read (Oram bank) = false
-is_eram_read Halted = false
+is_eram_read other = false
 
 abbrev pub is_eram_write : Observed → Bool
-is_eram_write (RamRead block words) = false
-is_eram_write (RamWrite block words) = false
-is_eram_write (EncRead block) = false
 is_eram_write (EncWrite block) = true
-is_eram_write (Oram bank) = false
-is_eram_write Halted = false
+is_eram_write other = false
 
 -- accesses to oblivious bank b
 abbrev pub is_oram : ℕ → Observed → Bool
-is_oram b (RamRead block words) = false
-is_oram b (RamWrite block words) = false
-is_oram b (EncRead block) = false
-is_oram b (EncWrite block) = false
 is_oram b (Oram bank) = b == bank
-is_oram b Halted = false
+is_oram b other = false
 
 -- the counts are those of these events, and a run that shows them ends so
 pub record CountsEvents (tally : Tally) (events : List Stamped) : Type 0 where
@@ -68,12 +48,8 @@ access_counted bank orams =
     if nat_lt bank (length orams) then slice_set orams bank (counted true (slice_index orams bank)) else orams
 
 abbrev pub orams_counted : Observed → List ℕ → List ℕ
-orams_counted (RamRead block words) orams = orams
-orams_counted (RamWrite block words) orams = orams
-orams_counted (EncRead block) orams = orams
-orams_counted (EncWrite block) orams = orams
 orams_counted (Oram bank) orams = access_counted bank orams
-orams_counted Halted orams = orams
+orams_counted other orams = orams
 
 pub record CountsOneMore (before : Tally) (event : Recorded) (after : Tally) : Type 0 where
   pub ram_reads : after.ram_reads ≡ counted (is_ram_read (observed_in event.event)) before.ram_reads

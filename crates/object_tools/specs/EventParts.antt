@@ -23,10 +23,7 @@ number_of Halted = 0
 abbrev pub words_of : Observed → List ℤ
 words_of (RamRead block words) = words
 words_of (RamWrite block words) = words
-words_of (EncRead block) = []
-words_of (EncWrite block) = []
-words_of (Oram bank) = []
-words_of Halted = []
+words_of other = []
 
 pub record HaveEqualParts (one other : Recorded) : Type 0 where
   pub stamps : one.stamp ≡ other.stamp

@@ -9,3 +9,4 @@ pub mod SoFar
 pub mod CountedSoFar
 pub mod Runs
 pub mod ToolWords
+pub mod Prelude

@@ -7,8 +7,8 @@ use Rattle.lt_isa.specs.Trace.{Stamped, seen_at}
 use Rattle.processor.specs.Keeping.{events_in-append}
 use Rattle.processor.specs.Watching.{WatcherTold, events_in}
 use Rattle.object_tools.specs.declared.recorder.OwnedEvent.{OwnedEvent}
-use Rattle.object_tools.specs.declared.recorder.OwnedEvent.TheVariants as owned
 use Rattle.object_tools.specs.declared.recorder.Recorded.{Recorded}
+use Rattle.object_tools.specs.declared.recorder.OwnedEvent.TheVariants as owned
 
 -- what is seen in an event that owns its words
 abbrev pub observed_in : OwnedEvent → Observed

@@ -2,20 +2,16 @@
 use Rattle.std.specs.Prelude.{◌≡◌, ℕ, List, ◌++◌, length}
 use Rattle.lt_isa.specs.Trace.{Stamped}
 use Rattle.processor.specs.declared.ends.End.{End}
-use Rattle.processor.specs.declared.ends.End.TheVariants as end
 use Rattle.object_tools.specs.Comparing.{Ends}
 use Rattle.object_tools.specs.declared.recorder.OwnedEvent.{OwnedEvent}
-use Rattle.object_tools.specs.declared.recorder.OwnedEvent.TheVariants as owned
 use Rattle.object_tools.specs.declared.recorder.Recorded.{Recorded}
+use Rattle.processor.specs.declared.ends.End.TheVariants as end
+use Rattle.object_tools.specs.declared.recorder.OwnedEvent.TheVariants as owned
 
 -- how a run ends that has shown an event at a cycle, if it ended so before
 abbrev pub end_by : End → ℕ → OwnedEvent → End
-end_by before at (owned.RamRead block words) = before
-end_by before at (owned.RamWrite block words) = before
-end_by before at (owned.EncRead block) = before
-end_by before at (owned.EncWrite block) = before
-end_by before at (owned.Oram bank) = before
 end_by before at owned.Halt = end.Halted at
+end_by before at other = before
 
 abbrev pub end_after : End → Recorded → End
 end_after before event = end_by before event.stamp event.event

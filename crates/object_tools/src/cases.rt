@@ -1,7 +1,7 @@
 //! Cases in JSON: what a program is given, and what it is to leave.
 
 ghost use Rattle.std.specs.Prelude.{IfOk};
-ghost use Rattle.gr_word.specs.Fitting.{AreVariables, FitsWants};
+ghost use Rattle.gr_word.specs.Prelude.{AreVariables, FitsWants};
 
 use crate::case_problems::{Problem, saying, saying_of};
 use gr_word::{Inputs, Want};

@@ -1,7 +1,7 @@
 //! In which row of a table each instruction of a compiled program is: a row for each line of the source, and one for the
 //! start and the end.
 
-ghost use Rattle.lt_isa.specs.Ranges.{ProfileFits};
+ghost use Rattle.lt_isa.specs.Prelude.{ProfileFits};
 
 use crate::procedure_lines::lines_without_calls;
 use crate::reasons::slots_of;

@@ -1,11 +1,10 @@
-ghost use Rattle.std.specs.Prelude.{◌≡◌, ◌↔◌, ◌≤◌, ◌<◌, IfOk, IsTrue};
-ghost use Rattle.lt_isa.specs.Trace.{trace_from};
+ghost use Rattle.std.specs.Prelude.{◌≡◌, ◌↔◌, ◌≤◌, ◌<◌, IfOk, IsTrue, Some, None};
+ghost use Rattle.lt_isa.specs.Prelude.{trace_from};
 ghost use Rattle.object_tools.specs.Comparing.{Compares};
 ghost use Rattle.object_tools.specs.EventParts.{HaveEqualParts};
 ghost use Rattle.object_tools.specs.Judging.{Judges};
 ghost use Rattle.object_tools.specs.Recorded.{stamped_of};
 ghost use Rattle.object_tools.specs.SoFar.{end_after};
-ghost use Rattle.std.specs.Prelude.{Some, None};
 
 use crate::recorder::{OwnedEvent, Recorded};
 use crate::trace_reader::TraceReader;

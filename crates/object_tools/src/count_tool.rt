@@ -1,6 +1,5 @@
 ghost use Rattle.std.specs.Prelude.{◌≡◌, ◌≢◌, IfOk};
-ghost use Rattle.lt_isa.specs.Ranges.{IsInRange};
-ghost use Rattle.lt_isa.specs.Start.{FitsObject, trace};
+ghost use Rattle.lt_isa.specs.Prelude.{IsInRange, FitsObject, trace};
 ghost use Rattle.object_tools.specs.Counting.{CountsEvents};
 ghost use Rattle.object_tools.specs.Statuses.{SaysOfOne};
 

@@ -1,5 +1,5 @@
 ghost use Rattle.std.specs.Prelude.{◌≡◌, IfOk, IsTrue, length, replicate};
-ghost use Rattle.lt_isa.specs.Trace.{trace_from};
+ghost use Rattle.lt_isa.specs.Prelude.{trace_from};
 ghost use Rattle.object_tools.specs.Counting.{CountsEvents, CountsOneMore, access_counted};
 
 use crate::recorder::{OwnedEvent, Recorded};

@@ -1,6 +1,5 @@
 ghost use Rattle.std.specs.Prelude.{◌≡◌, ◌≢◌, IfOk, IfSome};
-ghost use Rattle.lt_isa.specs.Ranges.{IsInRange};
-ghost use Rattle.lt_isa.specs.Start.{FitsObject, trace};
+ghost use Rattle.lt_isa.specs.Prelude.{IsInRange, FitsObject, trace};
 ghost use Rattle.object_tools.specs.Statuses.{SaysOfBoth, comparison_status};
 
 use crate::comparing::Comparison;

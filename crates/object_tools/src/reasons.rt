@@ -1,6 +1,6 @@
 //! Why a variable is stored where it is.
 
-ghost use Rattle.lt_isa.specs.Ranges.{ProfileFits};
+ghost use Rattle.lt_isa.specs.Prelude.{ProfileFits};
 
 use crate::source_texts::{Access, SourceText};
 use crate::variables::{number_of, push_name};

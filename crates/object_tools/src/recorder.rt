@@ -1,6 +1,5 @@
 ghost use Rattle.std.specs.Prelude.{◌≡◌, ◌∷◌, ◌++◌, [], IfOk, OnErr, OnOk, map};
-ghost use Rattle.lt_isa.specs.Events.{observed_of};
-ghost use Rattle.lt_isa.specs.Trace.{seen_at};
+ghost use Rattle.lt_isa.specs.Prelude.{observed_of, seen_at};
 ghost use Rattle.object_tools.specs.EventParts.{kind_of, number_of, words_of};
 ghost use Rattle.object_tools.specs.Recorded.{observed_in, stamped_of};
 

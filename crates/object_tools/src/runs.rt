@@ -1,12 +1,10 @@
 //! Runs of an accepted object, and of a program by its meaning.
 
 ghost use Rattle.std.specs.Prelude.{◌≡◌, ◌≤◌, IfOk, IfSome};
-ghost use Rattle.gr_word.specs.Fitting.{FitsWants};
-ghost use Rattle.lt_isa.specs.Ranges.{IsInRange};
-ghost use Rattle.lt_isa.specs.Start.{FitsObject, trace};
-ghost use Rattle.src_tree.specs.Trees.{source_of};
-ghost use Rattle.src_tree.specs.Meaning.{meaning};
-ghost use Rattle.flow_types.specs.Wants.{declared_wants};
+ghost use Rattle.gr_word.specs.Prelude.{FitsWants};
+ghost use Rattle.lt_isa.specs.Prelude.{IsInRange, FitsObject, trace};
+ghost use Rattle.src_tree.specs.Prelude.{source_of, meaning};
+ghost use Rattle.flow_types.specs.Prelude.{declared_wants};
 ghost use Rattle.object_tools.specs.Comparing.{Compares};
 ghost use Rattle.object_tools.specs.Runs.{LeavesWords};
 

@@ -1,7 +1,7 @@
 //! Sources that tools compile in memory, each read once.
 
 ghost use Rattle.std.specs.Prelude.{◌≡◌, ◌≤◌, IfOk, IfSome, length};
-ghost use Rattle.lt_isa.specs.Ranges.{ProfileFits};
+ghost use Rattle.lt_isa.specs.Prelude.{ProfileFits};
 
 use crate::words::matches_of;
 use call_replies::replies::{Reply, Verdict};

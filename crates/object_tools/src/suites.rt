@@ -1,10 +1,9 @@
 //! The cases of a program, tried one after another.
 
 ghost use Rattle.std.specs.Prelude.{◌≡◌, ◌≤◌, IfOk};
-ghost use Rattle.gr_word.specs.Fitting.{FitsWants};
-ghost use Rattle.lt_isa.specs.Ranges.{IsInRange};
-ghost use Rattle.lt_isa.specs.Start.{FitsObject};
-ghost use Rattle.flow_types.specs.Wants.{declared_wants};
+ghost use Rattle.gr_word.specs.Prelude.{FitsWants};
+ghost use Rattle.lt_isa.specs.Prelude.{IsInRange, FitsObject};
+ghost use Rattle.flow_types.specs.Prelude.{declared_wants};
 
 use crate::case_problems::{Problem, saying};
 use crate::cases::Case;

@@ -1,7 +1,6 @@
 ghost use Rattle.std.specs.Prelude.{◌≡◌, ◌↔◌, true, IfOk, IsTrue};
 ghost use Rattle.clap.specs.Words.{app_of, is_simple_and_free, kind_of};
-ghost use Rattle.command_words.specs.Options.{IsFound, texts};
-ghost use Rattle.command_words.specs.VerbRows.{command_of};
+ghost use Rattle.command_words.specs.Prelude.{IsFound, texts, command_of};
 ghost use Rattle.object_tools.specs.ToolWords.{tool_row};
 
 use clap::error::ErrorKind;

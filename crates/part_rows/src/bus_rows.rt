@@ -1,5 +1,5 @@
 ghost use Rattle.std.specs.Prelude.{◌≡◌, ◌<◌, ◌≤◌, ◌∷◌, [], All, IfOk, length, true};
-ghost use Rattle.bus_arbiter.specs.Shares.{share_of};
+ghost use Rattle.bus_arbiter.specs.Prelude.{share_of};
 
 use crate::fixtures::{accepted_of, inputs_of};
 use bus_arbiter::{Bus, BusWatch, Plan, Turn};

@@ -1,7 +1,7 @@
 ghost use Rattle.std.specs.Prelude.{IfOk};
-ghost use Rattle.lt_assembler.specs.Spelled.{SpellsInText};
-ghost use Rattle.lt_isa.specs.Start.{FitsObject};
-ghost use Rattle.trace_patterns.specs.Accepts.{Accepts};
+ghost use Rattle.lt_assembler.specs.Prelude.{SpellsInText};
+ghost use Rattle.lt_isa.specs.Prelude.{FitsObject};
+ghost use Rattle.trace_patterns.specs.Prelude.{Accepts};
 
 use flow_types::{Typed, type_program};
 use gr_word::Inputs;

@@ -1,5 +1,5 @@
 ghost use Rattle.std.specs.Prelude.{◌≤◌};
-ghost use Rattle.lt_isa.specs.Start.{FitsObject};
+ghost use Rattle.lt_isa.specs.Prelude.{FitsObject};
 
 use crate::fixtures::{LOAD, accepted_of, inputs_of, object_of};
 use gr_word::Inputs;

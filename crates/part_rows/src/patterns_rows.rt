@@ -1,5 +1,5 @@
 ghost use Rattle.std.specs.Prelude.{◌≡◌, IfOk};
-ghost use Rattle.trace_patterns.specs.Patterns.{first_gap};
+ghost use Rattle.trace_patterns.specs.Prelude.{first_gap};
 
 use gr_word::Op;
 use lt_isa::Note;

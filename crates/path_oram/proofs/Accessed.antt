@@ -3,11 +3,7 @@ use Rattle.std.proofs.Common.{◌≡◌, ◌≢◌, ℕ, suc, ◌^◌, ◌<◌, 
 use Rattle.std.proofs.lemmas.Bool.{cases_eq, cases_lt}
 use Rattle.std.proofs.lemmas.List.{get_or_past}
 use Rattle.path_oram.specs.declared.bucket.Placed.{Placed}
-use Rattle.path_oram.specs.GreedyPath.{GreedyPath}
-use Rattle.path_oram.specs.Places.{Places, held, index_on, on_path}
-use Rattle.path_oram.specs.Settling.{WritesBack}
-use Rattle.path_oram.specs.Slots.{AllHaveLeaves, HaveLeaves, IsNotBeside, blocks_in, places_of, tree_blocks}
-use Rattle.path_oram.specs.Whole.{IsWhole}
+use Rattle.path_oram.specs.Prelude.{GreedyPath, Places, held, index_on, on_path, WritesBack, AllHaveLeaves, HaveLeaves, IsNotBeside, blocks_in, places_of, tree_blocks, IsWhole}
 use Rattle.path_oram.proofs.Found.{places_count, places_read}
 use Rattle.path_oram.proofs.Poured.{poured_size}
 use Rattle.path_oram.proofs.Slots.{count_buckets}

@@ -4,12 +4,8 @@ use Rattle.std.proofs.lemmas.Bool.{cases_eq, eq-eqb, ne_eqb}
 use Rattle.std.proofs.lemmas.List.{get_or-map, length-map, length-set, map-append}
 use Rattle.rand_core.specs.Stream.{Stream, next_u64}
 use Rattle.banks.specs.declared.bank.Leaves.{Leaves}
-use Rattle.banks.specs.Banks.{one_leaf}
-use Rattle.path_oram.specs.Moves.{MovesBy}
-use Rattle.path_oram.specs.Orams.{leaves_ahead, paths_ahead}
-use Rattle.path_oram.specs.Places.{Places}
-use Rattle.path_oram.specs.Words.{first_words, leaf_of, word_at, words_left}
-use Rattle.path_oram.specs.WordsRead.{leaves_shown, read_word_number, words_read, words_read_after}
+use Rattle.banks.specs.Prelude.{one_leaf}
+use Rattle.path_oram.specs.Prelude.{MovesBy, leaves_ahead, paths_ahead, Places, first_words, leaf_of, word_at, words_left, leaves_shown, read_word_number, words_read, words_read_after}
 
 -- what is left after one more word
 pub words_left-one : (words : Stream) (k : ℕ) → words_left (suc k) words ≡ (next_u64 (words_left k words)).1

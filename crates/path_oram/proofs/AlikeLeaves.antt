@@ -1,13 +1,10 @@
 -- The leaves of runs of an oblivious object are alike.
 use Rattle.std.proofs.Common.{◌≡◌, length, sym, ap, ◌∙◌}
-use Rattle.lt_isa.specs.Object.{Parts, blocks_of}
-use Rattle.lt_isa.specs.Oblivious.{IsOblivious}
-use Rattle.lt_isa.specs.Ranges.{IsInRange}
-use Rattle.lt_isa.specs.Start.{start_state}
+use Rattle.lt_isa.specs.Prelude.{Parts, blocks_of, IsOblivious, IsInRange, start_state}
 use Rattle.lt_isa.proofs.Starts.{IsShaped-start}
-use Rattle.banks.specs.ObliviousEvents.{accesses_shown}
+use Rattle.banks.specs.Prelude.{accesses_shown}
 use Rattle.banks.proofs.AccessBounds.{accesses-counted, blocks-exist}
-use Rattle.path_oram.specs.LeavesAlike.{LeavesAlike, touched}
+use Rattle.path_oram.specs.Prelude.{LeavesAlike, touched}
 use Rattle.path_oram.proofs.Rearranging.{rearrangement}
 use Rattle.path_oram.proofs.ShownAlike.{shows_the_same}
 

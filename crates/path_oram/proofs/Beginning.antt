@@ -5,8 +5,7 @@ use Rattle.std.proofs.lemmas.List.{append-nil, length-replicate, get_or-replicat
 use Rattle.std.proofs.lemmas.List.Sorted.{IsPermutation-refl}
 use Rattle.std.proofs.lemmas.Bool.{cases_lt}
 use Rattle.std.proofs.lemmas.Nat.{one_shl}
-use Rattle.path_oram.specs.Places.{first_places, held, bucket_number}
-use Rattle.path_oram.specs.Whole.{IsWhole, IsHeightFor}
+use Rattle.path_oram.specs.Prelude.{first_places, held, bucket_number, IsWhole, IsHeightFor}
 use Rattle.path_oram.proofs.Moves.{everything}
 
 -- one more number

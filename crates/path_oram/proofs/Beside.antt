@@ -2,10 +2,7 @@
 use Rattle.std.proofs.Common.{◌≡◌, ◌≢◌, ℕ, suc, ◌^◌, ◌<◌, List, [], length, get_or, set, All, sym, ap, ◌∙◌, subst, arith}
 use Rattle.std.proofs.lemmas.List.{get_or_default}
 use Rattle.path_oram.specs.declared.bucket.Placed.{Placed}
-use Rattle.path_oram.specs.GreedyPath.{IsOff}
-use Rattle.path_oram.specs.Places.{held, on_path}
-use Rattle.path_oram.specs.Pouring.{poured}
-use Rattle.path_oram.specs.Slots.{AllHaveLeaves, IsNotBeside, blocks_in, tree_blocks}
+use Rattle.path_oram.specs.Prelude.{IsOff, held, on_path, poured, AllHaveLeaves, IsNotBeside, blocks_in, tree_blocks}
 use Rattle.path_oram.proofs.PathNumbers.{path_within}
 use Rattle.path_oram.proofs.Poured.{poured_off, poured_on}
 use Rattle.path_oram.proofs.Slots.{count_blocks, held_blocks, others_have}

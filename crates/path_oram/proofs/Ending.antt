@@ -1,11 +1,7 @@
 -- Where the blocks are at the end of a run over a new bank.
 use Rattle.std.proofs.Common.{◌≡◌, ℕ, zero, suc, ◌+◌, List, ◌∷◌, Option, length, map, take, drop, refl, sym, ap, ◌∙◌, subst, arith}
 use Rattle.rand_core.specs.Stream.{Stream, next_u64}
-use Rattle.path_oram.specs.Moves.{Moves}
-use Rattle.path_oram.specs.Orams.{ComesBy}
-use Rattle.path_oram.specs.Places.{Places, first_places}
-use Rattle.path_oram.specs.Settles.{AreLevels, Settles, places_from}
-use Rattle.path_oram.specs.Words.{first_words, leaf_of, words_left}
+use Rattle.path_oram.specs.Prelude.{Moves, ComesBy, Places, first_places, AreLevels, Settles, places_from, first_words, leaf_of, words_left}
 
 -- the first words of a source, from more of its words
 take-first_words : (n m : ℕ) (words : Stream) → take n (first_words (n + m) words) ≡ first_words n words

@@ -12,14 +12,7 @@ use Rattle.std.proofs.Math.ListN.{get_or-append}
 use Rattle.std.proofs.Math.Nat.{mod-lt, pow-suc}
 use Rattle.std.proofs.Math.Seq.{get_or-append_seam}
 use Rattle.rand_core.specs.Stream.{Stream}
-use Rattle.path_oram.specs.Places.{Places, held, on_path, passes_bucket, path_blocks}
-use Rattle.path_oram.specs.Moves.{Moves, MovesBy, Stays, Then}
-use Rattle.path_oram.specs.Pouring.{poured}
-use Rattle.path_oram.specs.Orams.{ComesBy}
-use Rattle.path_oram.specs.Settles.{AreLevels, Settles, StandsOn, places_from}
-use Rattle.path_oram.specs.Settling.{HasRoom, IsDeepest, IsSettled, NoneFrom}
-use Rattle.path_oram.specs.Whole.{IsHeightFor, IsWhole}
-use Rattle.path_oram.specs.Words.{first_words, leaf_of, words_left}
+use Rattle.path_oram.specs.Prelude.{Places, held, on_path, passes_bucket, path_blocks, Moves, MovesBy, Stays, Then, poured, ComesBy, AreLevels, Settles, StandsOn, places_from, HasRoom, IsDeepest, IsSettled, NoneFrom, IsHeightFor, IsWhole, first_words, leaf_of, words_left}
 use Rattle.path_oram.proofs.Ahead.{length-first_words}
 use Rattle.path_oram.proofs.Beginning.{first_whole}
 use Rattle.path_oram.proofs.PathNumbers.{path_within}

@@ -7,9 +7,7 @@ use Rattle.std.proofs.lemmas.List.{ext_get_or, get_or-replicate, length-map, len
 use Rattle.std.proofs.lemmas.List.Elements.{All-append, All-map}
 use Rattle.std.proofs.lemmas.List.FromFn.{get_or-map-range_with_len, length-range_with_len}
 use Rattle.path_oram.specs.declared.bucket.Placed.{Placed}
-use Rattle.path_oram.specs.Places.{Places, first_places}
-use Rattle.path_oram.specs.Slots.{AllHaveLeaves, HaveLeaves, all_slots, blocks_in, leaf_in, places_of, slot_of, tree_blocks}
-use Rattle.path_oram.specs.Whole.{IsHeightFor, IsWhole}
+use Rattle.path_oram.specs.Prelude.{Places, first_places, AllHaveLeaves, HaveLeaves, all_slots, blocks_in, leaf_in, places_of, slot_of, tree_blocks, IsHeightFor, IsWhole}
 use Rattle.path_oram.proofs.Beginning.{first_whole}
 use Rattle.path_oram.proofs.Slots.{all_in}
 use Rattle.path_oram.proofs.Standing.{somewhere}

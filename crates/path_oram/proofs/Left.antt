@@ -4,10 +4,7 @@ use Rattle.std.specs.List.{count_by, range_with_len}
 use Rattle.std.proofs.lemmas.List.{append-nil}
 use Rattle.std.proofs.lemmas.List.Sorted.{sum_by-IsPermutation}
 use Rattle.std.proofs.lemmas.List.Sums.{sum_by-cons}
-use Rattle.path_oram.specs.Places.{Places, on_path, held, hand, path_blocks, passes_bucket, all_blocks}
-use Rattle.path_oram.specs.Whole.{IsWhole}
-use Rattle.path_oram.specs.Pouring.{poured}
-use Rattle.path_oram.specs.Literal.{deeper_blocks, is_left_for, TakesWhatIsLeftWhereWhole}
+use Rattle.path_oram.specs.Prelude.{Places, on_path, held, hand, path_blocks, passes_bucket, all_blocks, IsWhole, poured, deeper_blocks, is_left_for, TakesWhatIsLeftWhereWhole}
 use Rattle.path_oram.proofs.PathNumbers.{path_within, path_apart}
 use Rattle.path_oram.proofs.Moves.{everything}
 use Rattle.path_oram.proofs.Poured.{poured_all}

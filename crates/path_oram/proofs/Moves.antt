@@ -3,7 +3,7 @@ use Rattle.std.proofs.Common.{ℕ, zero, suc, ◌<◌, List, [], ◌∷◌, ◌+
 use Rattle.std.specs.List.{flat_map}
 use Rattle.std.specs.List.Sorted.{IsPermutation}
 use Rattle.std.proofs.lemmas.List.Sorted.{IsPermutation-refl, IsPermutation-trans, IsPermutation-sym, IsPermutation-append_comm, IsPermutation-append_left, IsPermutation-append_right, IsPermutation-middle}
-use Rattle.path_oram.specs.Places.{held, all_blocks}
+use Rattle.path_oram.specs.Prelude.{held, all_blocks}
 
 -- all blocks in a tree
 abbrev pub everything : List (List ℕ) → List ℕ

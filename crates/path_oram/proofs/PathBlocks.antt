@@ -5,7 +5,7 @@ use Rattle.std.specs.List.Sorted.{IsPermutation}
 use Rattle.std.proofs.lemmas.List.Elements.{All-append, All-nil}
 use Rattle.std.proofs.lemmas.List.Sorted.{IsPermutation-sym, IsPermutation-append_left, IsPermutation-to_front}
 use Rattle.std.proofs.lemmas.Bool.{cases_eq}
-use Rattle.path_oram.specs.Places.{held, path_blocks}
+use Rattle.path_oram.specs.Prelude.{held, path_blocks}
 
 -- a property of the blocks of each bucket
 pub path_all : (P : ℕ → Type 0) (path : ℕ → ℕ) (tree : List (List ℕ)) (n : ℕ)

@@ -4,7 +4,7 @@ use Rattle.std.proofs.Math.Pow.{pow_mono}
 use Rattle.std.proofs.Math.Nat.{two-pow-succ, div-lt_iff_lt-mul}
 use Rattle.std.proofs.lemmas.Nat.{pow-add, pow_pos, one_shl}
 use Rattle.std.proofs.lemmas.Bool.{cases_lt}
-use Rattle.path_oram.specs.Places.{index_on, on_path, bucket_number}
+use Rattle.path_oram.specs.Prelude.{index_on, on_path, bucket_number}
 
 -- a level has 2^level buckets, and the path passes through one of them
 pub index_on_bound : (height leaf level : ℕ) → level ≤ height → leaf < 2 ^ height

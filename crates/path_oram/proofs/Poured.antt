@@ -6,8 +6,7 @@ use Rattle.std.specs.List.Sorted.{IsPermutation}
 use Rattle.std.proofs.lemmas.List.{append-nil}
 use Rattle.std.proofs.lemmas.List.Sorted.{IsPermutation-refl, IsPermutation-trans, length_permutation}
 use Rattle.std.proofs.lemmas.Bool.{cases_eq}
-use Rattle.path_oram.specs.Places.{held, path_blocks, all_blocks}
-use Rattle.path_oram.specs.Pouring.{poured}
+use Rattle.path_oram.specs.Prelude.{held, path_blocks, all_blocks, poured}
 use Rattle.path_oram.proofs.Moves.{everything, all_poured}
 
 -- the number of buckets stays

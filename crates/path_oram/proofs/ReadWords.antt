@@ -1,11 +1,10 @@
 -- The word that each access reads.
 use Rattle.std.proofs.Common.{◌≡◌, ℕ, zero, suc, ◌+◌, ◌-◌, ◌<◌, ◌≢◌, ◌⊎◌, inl, inr, List, [], ◌∷◌, ◌++◌, length, get_or, reverse, take, set, true, false, true≢false, eqb, refl, sym, ap, subst, ◌∙◌, arith, ⊎_elim, append_assoc, get_or-set_same, get_or-set_other, map}
 use Rattle.std.proofs.lemmas.Bool.{cases_eq, eqb-true, cases_Bool, eq-eqb}
-use Rattle.std.proofs.lemmas.List.{reverse-append, length-reverse, length-take-le, take_more, append-nil}
+use Rattle.std.proofs.lemmas.List.{reverse-append, length-reverse, length-take-le, take_more, append-nil, ext_get_or}
 use Rattle.std.specs.List.{range_with_len}
-use Rattle.std.proofs.lemmas.List.{ext_get_or}
 use Rattle.std.proofs.lemmas.List.FromFn.{get_or-map-range_with_len, length-map-range_with_len}
-use Rattle.path_oram.specs.WordsRead.{read_word_number, words_read_after, words_read, ReadsWord, EachReads}
+use Rattle.path_oram.specs.Prelude.{read_word_number, words_read_after, words_read, ReadsWord, EachReads}
 
 -- the blocks accessed before, the last one first
 abbrev pub IsBefore : List ℕ → List ℕ → Type 0

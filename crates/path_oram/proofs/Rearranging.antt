@@ -6,8 +6,7 @@ use Rattle.std.proofs.lemmas.Bool.{cases_lt}
 use Rattle.std.proofs.lemmas.List.{length-replicate}
 use Rattle.std.proofs.lemmas.List.Elements.{All-cons, All-nil}
 use Rattle.std.proofs.lemmas.List.Sorted.{All-permutation, IsPermutation-append_comm, IsPermutation-append_left, IsPermutation-append_right, IsPermutation-cons, IsPermutation-refl, IsPermutation-trans}
-use Rattle.path_oram.specs.Rearranged.{IsRearrangement, IsWordOrder}
-use Rattle.path_oram.specs.WordsRead.{words_next, words_read}
+use Rattle.path_oram.specs.Prelude.{IsRearrangement, IsWordOrder, words_next, words_read}
 use Rattle.path_oram.proofs.Paired.{order_length, pairs_more, pairs_order}
 use Rattle.path_oram.proofs.WordsOnce.{each_word_once}
 

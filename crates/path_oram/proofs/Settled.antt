@@ -6,8 +6,7 @@ use Rattle.std.proofs.lemmas.List.{append-nil, take_more, take-take, take-set}
 use Rattle.std.proofs.lemmas.List.Elements.{All-push, All-set}
 use Rattle.std.proofs.lemmas.List.Sorted.{IsPermutation-refl, IsPermutation-trans, IsPermutation-append_left, IsPermutation-append_right, IsPermutation-swap_remove}
 use Rattle.std.proofs.lemmas.Bool.{cases_eq}
-use Rattle.path_oram.specs.Places.{held, on_path, path_blocks, passes_bucket, all_blocks}
-use Rattle.path_oram.specs.Settling.{HasRoom, NonePasses, IsDeepest, NoneFrom, IsSettled}
+use Rattle.path_oram.specs.Prelude.{held, on_path, path_blocks, passes_bucket, all_blocks, HasRoom, NonePasses, IsDeepest, NoneFrom, IsSettled}
 use Rattle.path_oram.proofs.PathNumbers.{path_differs, on_path_bound}
 use Rattle.path_oram.proofs.Moves.{all_put, moved_behind}
 use Rattle.path_oram.proofs.PathBlocks.{path_empty, path_put}

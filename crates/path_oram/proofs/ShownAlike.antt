@@ -2,8 +2,7 @@
 use Rattle.std.proofs.Common.{◌≡◌, ℕ, suc, ◌+◌, ◌^◌, ◌%◌, ◌<◌, List, [], ◌∷◌, length, map, get_or, refl, sym, ap, ◌∙◌, arith}
 use Rattle.std.proofs.Math.ListN.{get_or-append}
 use Rattle.std.proofs.lemmas.List.{ext_get_or, get_or-map, length-map}
-use Rattle.path_oram.specs.WordsRead.{words_read_after, words_read}
-use Rattle.path_oram.specs.Rearranged.{IsWordOrder, ShowsTheSame}
+use Rattle.path_oram.specs.Prelude.{words_read_after, words_read, IsWordOrder, ShowsTheSame}
 use Rattle.path_oram.proofs.Paired.{order_below, order_length}
 
 pub read_after_length : (count : ℕ) (earlier blocks : List ℕ)

@@ -7,8 +7,7 @@ use Rattle.std.proofs.lemmas.List.Elements.{All-append, All-map, All-push, All-s
 use Rattle.std.proofs.lemmas.List.Sorted.{All-permutation, IsPermutation-swap_remove}
 use Rattle.std.proofs.Math.ListN.{get_or-map}
 use Rattle.path_oram.specs.declared.bucket.Placed.{Placed}
-use Rattle.path_oram.specs.Places.{all_blocks, held}
-use Rattle.path_oram.specs.Slots.{AllHaveLeaves, HaveLeaves, all_slots, blocks_in, slots_at, tree_blocks, with_leaf}
+use Rattle.path_oram.specs.Prelude.{all_blocks, held, AllHaveLeaves, HaveLeaves, all_slots, blocks_in, slots_at, tree_blocks, with_leaf}
 
 -- ---- as blocks
 

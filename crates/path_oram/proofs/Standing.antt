@@ -6,8 +6,7 @@ use Rattle.std.proofs.lemmas.Bool.{cases_lt, cases_eq}
 use Rattle.std.proofs.lemmas.List.Elements.{All-contains, All-contains_itself, Contains-append_cases}
 use Rattle.std.proofs.lemmas.List.FromFn.{length-range_with_len, get_or-range_with_len}
 use Rattle.std.proofs.lemmas.List.Sorted.{All-permutation, IsPermutation-sym}
-use Rattle.path_oram.specs.Places.{Places, held, index_on, bucket_number, on_path}
-use Rattle.path_oram.specs.Whole.{IsWhole}
+use Rattle.path_oram.specs.Prelude.{Places, held, index_on, bucket_number, on_path, IsWhole}
 use Rattle.path_oram.proofs.PathNumbers.{twice}
 
 -- a bucket's number has a level and an index

@@ -5,11 +5,8 @@ use Rattle.std.proofs.lemmas.List.Elements.{All-map}
 use Rattle.std.proofs.lemmas.Nat.{pow_pos}
 use Rattle.std.proofs.Math.Nat.{mod-lt}
 use Rattle.rand_core.specs.Stream.{Stream}
-use Rattle.banks.specs.Banks.{one_leaf}
-use Rattle.path_oram.specs.Orams.{paths_ahead}
-use Rattle.path_oram.specs.Places.{Places, first_places}
-use Rattle.path_oram.specs.Words.{first_words, leaf_of, words_left}
-use Rattle.path_oram.specs.WordsRead.{leaves_shown}
+use Rattle.banks.specs.Prelude.{one_leaf}
+use Rattle.path_oram.specs.Prelude.{paths_ahead, Places, first_places, first_words, leaf_of, words_left, leaves_shown}
 use Rattle.path_oram.proofs.Ahead.{ahead-shown, length-first_words}
 
 module _ (words : Stream) (all count height : ℕ) (leaves : List ℕ) (same : count ≡ all)

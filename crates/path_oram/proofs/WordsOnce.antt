@@ -6,7 +6,7 @@ use Rattle.std.specs.List.Sorted.{IsPermutation}
 use Rattle.std.proofs.lemmas.Bool.{cases_eq, cases_Bool, eq-eqb, eqb-true}
 use Rattle.std.proofs.lemmas.List.{append-nil, reverse-append}
 use Rattle.std.proofs.lemmas.List.Sorted.{IsPermutation-refl, IsPermutation-trans, IsPermutation-append_left, IsPermutation-cons, IsPermutation-middle}
-use Rattle.path_oram.specs.WordsRead.{read_word_number, words_read_after, words_read, EachWordOnce}
+use Rattle.path_oram.specs.Prelude.{read_word_number, words_read_after, words_read, EachWordOnce}
 use Rattle.path_oram.proofs.Moves.{exchanged}
 
 -- a function that has another value at one number

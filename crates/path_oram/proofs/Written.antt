@@ -7,11 +7,7 @@ use Rattle.std.proofs.lemmas.List.Sorted.{IsPermutation-trans, length_permutatio
 use Rattle.std.proofs.lemmas.Bool.{cases_eq, cases_lt, eqb-true}
 use Rattle.std.proofs.lemmas.Nat.{pow_pos}
 use Rattle.std.proofs.lemmas.List.FromFn.{length-range_with_len}
-use Rattle.path_oram.specs.Places.{Places, held, index_on, on_path, bucket_number, path_blocks, passes_bucket, all_blocks}
-use Rattle.path_oram.specs.GreedyPath.{GreedyPath, IsOff}
-use Rattle.path_oram.specs.Whole.{IsWhole}
-use Rattle.path_oram.specs.Pouring.{poured}
-use Rattle.path_oram.specs.Settling.{NonePasses, WritesBack}
+use Rattle.path_oram.specs.Prelude.{Places, held, index_on, on_path, bucket_number, path_blocks, passes_bucket, all_blocks, GreedyPath, IsOff, IsWhole, poured, NonePasses, WritesBack}
 use Rattle.path_oram.proofs.PathNumbers.{index_on_bound, on_path_bound, path_within, path_apart, level_of, index_of}
 use Rattle.std.proofs.Math.Pow.{pow_mono}
 use Rattle.path_oram.proofs.Moves.{everything}

@@ -14,3 +14,4 @@ pub mod Settles
 pub mod Orams
 pub mod Coming
 pub mod LeavesAlike
+pub mod Prelude

@@ -1,6 +1,6 @@
 ghost use Rattle.std.specs.Prelude.{◌≡◌, ◌<◌, ◌≤◌, ◌^◌, [], IfOk, length, map, replicate};
 ghost use Rattle.std.specs.List.{range_with_len};
-ghost use Rattle.lt_isa.specs.Limits.{most_blocks};
+ghost use Rattle.lt_isa.specs.Prelude.{most_blocks};
 ghost use Rattle.path_oram.specs.Slots.{slot_of};
 ghost use Rattle.path_oram.specs.Whole.{IsHeightFor};
 

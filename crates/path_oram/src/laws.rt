@@ -1,6 +1,4 @@
-ghost use Rattle.lt_isa.specs.Object.{Parts};
-ghost use Rattle.lt_isa.specs.Oblivious.{IsOblivious};
-ghost use Rattle.lt_isa.specs.Ranges.{IsInRange};
+ghost use Rattle.lt_isa.specs.Prelude.{Parts, IsOblivious, IsInRange};
 ghost use Rattle.path_oram.specs.LeavesAlike.{LeavesAlike};
 ghost use Rattle.path_oram.specs.Rearranged.{ShowsTheSame};
 ghost use Rattle.path_oram.specs.WordsRead.{EachReads, EachWordOnce};

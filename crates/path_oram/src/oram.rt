@@ -1,9 +1,7 @@
 ghost use Rattle.std.specs.Prelude.{◌≡◌, ◌+◌, ◌/◌, ◌%◌, ◌^◌, ◌<◌, ◌≤◌, ◌∷◌, [], ℕ, List, IfOk, length, map, slice_get, slice_index, slice_set};
 ghost use Rattle.std.specs.List.{All};
-ghost use Rattle.lt_isa.specs.Limits.{most_blocks};
-ghost use Rattle.lt_isa.specs.Machine.{word_in};
-ghost use Rattle.banks.specs.Banks.{AreLeaves, block_numbered, one_leaf};
-ghost use Rattle.banks.specs.Blocks.{in_blocks};
+ghost use Rattle.lt_isa.specs.Prelude.{most_blocks, word_in};
+ghost use Rattle.banks.specs.Prelude.{AreLeaves, block_numbered, one_leaf, in_blocks};
 ghost use Rattle.rand_core.specs.Stream.{next_u64};
 ghost use Rattle.path_oram.specs.Coming.{comes-none, comes-then, paths-each};
 ghost use Rattle.path_oram.specs.GreedyPath.{GreedyPath};

@@ -1,6 +1,6 @@
 ghost use Rattle.std.specs.Prelude.{◌≡◌, ◌+◌, ◌<◌, ◌≤◌, ◌^◌, IfOk, IfSome, OnSome, IsNone, ◌↔◌, length, replicate, slice_index, [], Some, None};
 ghost use Rattle.std.specs.List.{All, range_with_len};
-ghost use Rattle.lt_isa.specs.Limits.{most_blocks};
+ghost use Rattle.lt_isa.specs.Prelude.{most_blocks};
 ghost use Rattle.path_oram.specs.Places.{bucket_number, held, first_places};
 ghost use Rattle.path_oram.specs.Moves.{MovesTo};
 ghost use Rattle.path_oram.specs.Settles.{StandsOn};

@@ -1,9 +1,7 @@
 ghost use Rattle.std.specs.Prelude.{◌≡◌, ◌+◌, ◌/◌, ◌%◌, ◌<◌, ◌≤◌, ◌^◌, ℕ, IfOk, length, slice_get, slice_index, slice_set};
 ghost use Rattle.std.specs.List.{All};
-ghost use Rattle.lt_isa.specs.Limits.{most_blocks};
-ghost use Rattle.lt_isa.specs.Machine.{word_in};
-ghost use Rattle.banks.specs.Banks.{block_numbered};
-ghost use Rattle.banks.specs.Blocks.{in_blocks};
+ghost use Rattle.lt_isa.specs.Prelude.{most_blocks, word_in};
+ghost use Rattle.banks.specs.Prelude.{block_numbered, in_blocks};
 ghost use Rattle.path_oram.specs.Moves.{MovesTo};
 ghost use Rattle.path_oram.specs.Places.{bucket_number, first_places, held};
 ghost use Rattle.path_oram.specs.Settles.{StandsOn};

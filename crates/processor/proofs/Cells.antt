@@ -2,10 +2,9 @@
 use Rattle.std.proofs.Common.{◌≡◌, ℕ, ◌<◌, Bool, true, false, cond, ℤ, List, ◌++◌, length, map, get_or, set, take, drop, refl, sym, ap, ◌∙◌}
 use Rattle.std.proofs.lemmas.List.{get_or-map, map-set}
 use Rattle.std.proofs.Math.Seq.{take-append_seam}
-use Rattle.lt_isa.specs.Machine.{Slot, Unbound, Bound}
+use Rattle.lt_isa.specs.Prelude.{Slot, Unbound, Bound}
 use Rattle.processor.specs.declared.scratchpad.Cell.{Cell}
-use Rattle.processor.specs.Scratchpads.{cell_slot, slot_with_word}
-use Rattle.processor.specs.Stores.{Pad}
+use Rattle.processor.specs.Prelude.{cell_slot, slot_with_word, Pad}
 
 -- a cell with another word represents the slot with that word
 pub with_word-cell : (bound : Bool) (bank block : ℕ) (words : List ℤ) (i : ℕ) (word : ℤ)

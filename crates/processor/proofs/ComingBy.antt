@@ -3,9 +3,9 @@ use Rattle.std.proofs.Common.{◌≡◌, ◌≢◌, ℕ, cond, List, [], ◌∷�
 use Rattle.std.proofs.lemmas.List.{append-nil, nil_from_length}
 use Rattle.std.proofs.lemmas.Bool.{cases_eq, eq-eqb, ne_eqb}
 use Rattle.banks.specs.declared.bank.Leaves.{Leaves}
-use Rattle.banks.specs.Accesses.{Access, in_bank, at_most_one}
+use Rattle.banks.specs.Prelude.{Access, in_bank, at_most_one}
 use Rattle.banks.proofs.InBank.{in_bank-append}
-use Rattle.processor.specs.ObliviousBanks.{ComeBy, MayAccess, OfBoth, ShowsOn, oram_of}
+use Rattle.processor.specs.Prelude.{ComeBy, MayAccess, OfBoth, ShowsOn, oram_of}
 
 -- each access continues what its bank shows
 module _ {B : Type 0} (shows : B → List ℕ → List Leaves) (shows_each : (bank : B) (blocks : List ℕ)

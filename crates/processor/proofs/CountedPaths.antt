@@ -2,15 +2,11 @@
 use Rattle.std.proofs.Common.{◌≡◌, ℕ, zero, suc, ◌+◌, ◌≤◌, Bool, true, false, List, [], ◌∷◌, ◌++◌, length, Option, Some, None, refl, sym, ap, ◌∙◌, arith}
 use Rattle.std.proofs.lemmas.Bool.{false≢true}
 use Rattle.std.proofs.lemmas.List.{length-append}
-use Rattle.lt_isa.specs.Machine.{Halted, Observed}
-use Rattle.lt_isa.specs.Step.{StepResult, Goes, Stops, Faults}
+use Rattle.lt_isa.specs.Prelude.{Halted, Observed, StepResult, Goes, Stops, Faults}
 use Rattle.banks.specs.declared.bank.Leaves.{Leaves}
-use Rattle.banks.specs.Accesses.{Access, at_most_one}
-use Rattle.banks.specs.ObliviousEvents.{oblivious}
+use Rattle.banks.specs.Prelude.{Access, at_most_one, oblivious}
 use Rattle.banks.proofs.ShownAccesses.{event_of_outcome, if_oblivious, made_bank, told_bank}
-use Rattle.processor.specs.Ends.{oblivious_count, one_if_oblivious, path_count}
-use Rattle.processor.specs.Stepping.{may_show, told_of_step}
-use Rattle.processor.specs.Watching.{WatcherTold, AnEvent, APath, path_behind}
+use Rattle.processor.specs.Prelude.{oblivious_count, one_if_oblivious, path_count, may_show, told_of_step, WatcherTold, AnEvent, APath, path_behind}
 
 -- the paths in two stretches
 pub path_count-append : (xs ys : List WatcherTold) → path_count (xs ++ ys) ≡ path_count xs + path_count ys

@@ -2,16 +2,11 @@
 use Rattle.std.proofs.Common.{◌≡◌, ℕ, ◌+◌, ◌<◌, false, ℤ, List, length, set, Some, sym, ap, subst, ◌∙◌, arith}
 use Rattle.std.proofs.lemmas.List.{get_or-set_same}
 use Rattle.lt_isa.specs.declared.instructions.Instr.TheVariants.{Ldb, Stb}
-use Rattle.lt_isa.specs.Costs.{cost_of}
-use Rattle.lt_isa.specs.Machine.{Slot, Unbound, Bound, slot, register, bank_blocks, block_at, set_block, read_event, write_event}
-use Rattle.lt_isa.specs.Step.{Goes, with_bound, loaded, block_named}
-use Rattle.lt_isa.specs.Windows.{access_start}
+use Rattle.lt_isa.specs.Prelude.{cost_of, Slot, Unbound, Bound, slot, register, bank_blocks, block_at, set_block, read_event, write_event, Goes, with_bound, loaded, block_named, access_start}
 use Rattle.banks.specs.declared.bank.Leaves.{Leaves}
-use Rattle.banks.specs.Accesses.{access_on}
+use Rattle.banks.specs.Prelude.{access_on}
+use Rattle.processor.specs.Prelude.{Running, Accessed, MayAccess, IsReady, Executes, on_slot, outcome_of}
 use Rattle.processor.specs.declared.done.Untold.TheVariants as done
-use Rattle.processor.specs.Machines.{Running}
-use Rattle.processor.specs.ObliviousBanks.{Accessed, MayAccess}
-use Rattle.processor.specs.Stepping.{IsReady, Executes, on_slot, outcome_of}
 
 -- the machine after an access of this many cycles, and the machine with other banks
 abbrev pub behind_access : {B : Type 0} → Running B → ℕ → Running B

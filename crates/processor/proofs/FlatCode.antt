@@ -6,16 +6,11 @@ use Rattle.std.proofs.lemmas.Option.{slice_get-get_or}
 use Rattle.std.specs.Prelude.{IfSome}
 use Rattle.lt_isa.specs.declared.instructions.Instr.{Instr}
 use Rattle.lt_isa.specs.declared.instructions.Instr.TheVariants.{Nop, Halt, Ldb, Stb}
-use Rattle.lt_isa.specs.Machine.{State}
-use Rattle.lt_isa.specs.Object.{Parts}
-use Rattle.lt_isa.specs.Ranges.{InstrFits}
-use Rattle.lt_isa.specs.Step.{Goes, executed}
+use Rattle.lt_isa.specs.Prelude.{State, Parts, InstrFits, Goes, executed}
 use Rattle.processor.specs.declared.flat.Flat.{Flat}
 use Rattle.processor.specs.declared.flat.Flat.TheVariants.{Access}
 use Rattle.processor.specs.declared.quick.Point.{Point}
-use Rattle.processor.specs.Flat.{AreFlatForms, IsFlatForm, IsForStep, instr_of}
-use Rattle.processor.specs.Quick.{IsLeft, PassesQuickly, StandsForStep, state_at}
-use Rattle.processor.specs.Stores.{Pad}
+use Rattle.processor.specs.Prelude.{AreFlatForms, IsFlatForm, IsForStep, instr_of, IsLeft, PassesQuickly, StandsForStep, state_at, Pad}
 
 -- flat code has an entry for each instruction
 pub flat-fits : (banks : ℕ) (f : Flat) (i : Instr) → IsFlatForm f i → InstrFits banks i → InstrFits banks (instr_of f)

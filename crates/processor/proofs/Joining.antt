@@ -1,17 +1,12 @@
 -- Two consecutive runs show what one run shows, end as it ends, and leave the state that it leaves.
 use Rattle.std.proofs.Common.{◌≡◌, ℕ, ◌≤◌, List, ◌++◌, sym, subst, ⊎_elim}
 use Rattle.std.proofs.lemmas.List.Elements.{Contains-append_cases, Contains-append_right}
-use Rattle.lt_isa.specs.Object.{Parts}
-use Rattle.lt_isa.specs.Ranges.{IsInRange}
-use Rattle.lt_isa.specs.Machine.{State, Halted}
-use Rattle.lt_isa.specs.Shape.{IsShaped}
-use Rattle.lt_isa.specs.Trace.{Stamped, seen_at, trace_from, final_from}
+use Rattle.lt_isa.specs.Prelude.{Parts, IsInRange, State, Halted, IsShaped, Stamped, seen_at, trace_from, final_from}
 use Rattle.lt_isa.proofs.Ends.{trace_resumed, final_resumed}
 use Rattle.banks.proofs.ResumedAccesses.{accesses_resumed}
 use Rattle.processor.specs.declared.ends.End.{End}
+use Rattle.processor.specs.Prelude.{EndsAs, RunsJoin}
 use Rattle.processor.specs.declared.ends.End.TheVariants as end
-use Rattle.processor.specs.Ends.{EndsAs}
-use Rattle.processor.specs.Joining.{RunsJoin}
 
 -- some events without a halt, followed by others, end as the others do
 ends_behind : (es fs : List Stamped) (how : End) → EndsAs es end.Spent → EndsAs fs how → EndsAs (es ++ fs) how

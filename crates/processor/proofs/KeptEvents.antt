@@ -5,12 +5,10 @@ use Rattle.std.proofs.lemmas.List.{get_or-map, length-map, map-append, take-appe
 use Rattle.std.proofs.lemmas.List.Elements.{All-push, All-tail}
 use Rattle.std.proofs.lemmas.List.Sums.{sum_by-append}
 use Rattle.std.specs.declared.vec.Vec.{Vec}
-use Rattle.lt_isa.specs.Machine.{Observed, Halted}
-use Rattle.lt_isa.specs.Trace.{Stamped, seen_at}
+use Rattle.lt_isa.specs.Prelude.{Observed, Halted, Stamped, seen_at}
 use Rattle.processor.specs.declared.event_list.EventEntry.{EventEntry}
 use Rattle.processor.specs.declared.event_list.EventKind.{EventKind}
-use Rattle.processor.specs.EventLists.{event_of, entry_words, told_by, events_of, AreWithin}
-use Rattle.processor.specs.ListWatching.{Told, event_words, word_count, passes_room, told_more}
+use Rattle.processor.specs.Prelude.{event_of, entry_words, told_by, events_of, AreWithin, Told, event_words, word_count, passes_room, told_more}
 
 pub length-events_of : (words : List ℤ) (entries : List EventEntry) → length (events_of words entries) ≡ length entries
 unfolding events_of

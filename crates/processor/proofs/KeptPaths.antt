@@ -1,10 +1,9 @@
 -- What a recording watcher keeps of one call.
 use Rattle.std.proofs.Common.{◌≡◌, ℕ, [], ◌∷◌, ◌++◌, length, sym, ◌∙◌}
 use Rattle.std.proofs.lemmas.List.{append-nil}
-use Rattle.lt_isa.specs.Trace.{Stamped}
+use Rattle.lt_isa.specs.Prelude.{Stamped}
 use Rattle.banks.specs.declared.bank.Leaves.{Leaves}
-use Rattle.processor.specs.ListWatching.{Heard, KeepsMore, path_at}
-use Rattle.processor.specs.Watching.{AnEvent, APath}
+use Rattle.processor.specs.Prelude.{Heard, KeepsMore, path_at, AnEvent, APath}
 
 -- an event more
 pub keeps-event : (before now : Heard) (event : Stamped) → now.told.events ≡ before.told.events ++ event ∷ []

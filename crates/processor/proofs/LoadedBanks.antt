@@ -1,20 +1,14 @@
 -- The banks that a run starts with are those of its object, and make the start state.
-use Rattle.std.proofs.Common.{◌≡◌, ℕ, suc, ◌+◌, ◌-◌, ◌≤◌, ℤ, List, [], ◌∷◌, ◌++◌, length, map, get_or, All, refl, sym, ap, ◌∙◌, subst, arith}
-use Rattle.std.proofs.Common.{Result, true}
+use Rattle.std.proofs.Common.{◌≡◌, ℕ, suc, ◌+◌, ◌-◌, ◌≤◌, ℤ, List, [], ◌∷◌, ◌++◌, length, map, get_or, All, refl, sym, ap, ◌∙◌, subst, arith, Result, true}
 use Rattle.std.specs.Result.{IfOk}
 use Rattle.std.specs.List.{range_with_len}
-use Rattle.lt_isa.specs.Machine.{State}
+use Rattle.lt_isa.specs.Prelude.{State, Parts, block_words, IsInRange, IsShaped, IsBlock, FitsObject, start_bank, start_banks, start_state}
 use Rattle.std.proofs.lemmas.Simd.{map-map}
 use Rattle.std.proofs.lemmas.List.Elements.{All-map, All-cons}
 use Rattle.std.proofs.lemmas.List.FromFn.{map-range_with_len_more}
-use Rattle.lt_isa.specs.Object.{Parts, block_words}
-use Rattle.lt_isa.specs.Ranges.{IsInRange}
-use Rattle.lt_isa.specs.Shape.{IsShaped, IsBlock}
-use Rattle.lt_isa.specs.Start.{FitsObject, start_bank, start_banks, start_state}
 use Rattle.lt_isa.proofs.Starts.{IsShaped-start}
-use Rattle.banks.specs.Blocks.{Blocks}
-use Rattle.processor.specs.Machines.{AreBanksOf, Running, fresh_state}
-use Rattle.processor.specs.Starting.{starting_bank}
+use Rattle.banks.specs.Prelude.{Blocks}
+use Rattle.processor.specs.Prelude.{AreBanksOf, Running, fresh_state, starting_bank}
 use Rattle.processor.proofs.Sounds.{fresh_state-start}
 
 -- one oblivious bank more

@@ -3,26 +3,16 @@ use Rattle.std.proofs.Common.{◌≡◌, ℕ, zero, suc, ◌+◌, ◌≤◌, ◌
 use Rattle.std.specs.Prelude.{◌==◌}
 use Rattle.std.proofs.lemmas.Bool.{eq-eqb, eqb-true}
 use Rattle.std.proofs.lemmas.List.{nil_from_length}
-use Rattle.lt_isa.specs.Object.{Parts}
-use Rattle.lt_isa.specs.Ranges.{IsInRange}
-use Rattle.lt_isa.specs.Machine.{State}
-use Rattle.lt_isa.specs.Shape.{IsShaped}
-use Rattle.lt_isa.specs.Trace.{Stamped, final_from, trace_from}
+use Rattle.lt_isa.specs.Prelude.{Parts, IsInRange, State, IsShaped, Stamped, final_from, trace_from}
 use Rattle.banks.specs.declared.bank.Leaves.{Leaves}
-use Rattle.banks.specs.Accesses.{Access, accesses_from, in_bank}
-use Rattle.banks.specs.Banks.{no_leaves}
-use Rattle.banks.specs.ObliviousEvents.{accesses_shown, if_it_is, oblivious}
+use Rattle.banks.specs.Prelude.{Access, accesses_from, in_bank, no_leaves, accesses_shown, if_it_is, oblivious}
 use Rattle.banks.proofs.AccessBounds.{accesses-counted}
 use Rattle.banks.proofs.InBank.{in_bank-append}
-use Rattle.processor.specs.declared.ends.End.TheVariants as end
 use Rattle.processor.specs.declared.list_watch.ShownPaths.{ShownPaths}
-use Rattle.processor.specs.Ends.{EndsAs}
-use Rattle.processor.specs.ListWatching.{path_at, paths_in}
-use Rattle.processor.specs.ObliviousBanks.{ComeBy, OfBoth, ShowsOn, oram_of, paths_shown, shown_of}
-use Rattle.processor.specs.PathsTold.{ArePathsOf, is_bank, paths_of, places_of, stamps_of}
-use Rattle.processor.specs.Watching.{WatcherTold, left_paths, next_of, path_behind, run_shown, with_path, with_paths}
+use Rattle.processor.specs.Prelude.{EndsAs, path_at, paths_in, ComeBy, OfBoth, ShowsOn, oram_of, paths_shown, shown_of, ArePathsOf, is_bank, paths_of, places_of, stamps_of, WatcherTold, left_paths, next_of, path_behind, run_shown, with_path, with_paths}
 use Rattle.processor.proofs.Joining.{runs_join}
 use Rattle.processor.proofs.TellingPaths.{with_paths-same}
+use Rattle.processor.specs.declared.ends.End.TheVariants as end
 
 -- a list that isn't empty, from its first item on
 split_first : (shows : List Leaves) → 1 ≤ length shows → get_or shows 0 no_leaves ∷ drop 1 shows ≡ shows

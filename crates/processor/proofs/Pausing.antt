@@ -4,14 +4,10 @@ use Rattle.std.specs.Prelude.{IfSome, slice_get}
 use Rattle.std.proofs.lemmas.Bool.{cases_lt}
 use Rattle.lt_isa.specs.declared.instructions.Instr.{Instr}
 use Rattle.lt_isa.specs.declared.instructions.Instr.TheVariants.{Nop, Halt, Li, Alu, Ldb, Stb, Idb, Ldw, Stw, Jmp, Br}
-use Rattle.lt_isa.specs.Object.{Parts}
-use Rattle.lt_isa.specs.Machine.{State, set_block, slot, write_event}
-use Rattle.lt_isa.specs.Step.{Faults, Goes, StepResult, executed, passed, step, step_start}
-use Rattle.lt_isa.specs.Trace.{final_from, trace_from}
+use Rattle.lt_isa.specs.Prelude.{Parts, State, set_block, slot, write_event, Faults, Goes, StepResult, executed, passed, step, step_start, final_from, trace_from}
 use Rattle.lt_isa.proofs.Steps.{step-at, step-outside, step_start-least}
 use Rattle.lt_isa.proofs.Runs.{final_from-past, trace_from-past}
-use Rattle.processor.specs.Pauses.{PausesAt, ShowsNext}
-use Rattle.processor.specs.Quick.{IsLeft, RunsAlikeOn, StandsForStep}
+use Rattle.processor.specs.Prelude.{PausesAt, ShowsNext, IsLeft, RunsAlikeOn, StandsForStep}
 use Rattle.processor.proofs.QuickRuns.{no_store}
 
 -- a fault leads nowhere

@@ -2,32 +2,23 @@
 use Rattle.std.proofs.Common.{◌≡◌, ℕ, ◌+◌, ◌-◌, ◌<◌, ◌≤◌, List, [], ◌∷◌, ◌++◌, length, Option, Some, None, refl, sym, ap, ◌∙◌, subst, ⊎_elim, arith, append_assoc}
 use Rattle.std.proofs.lemmas.List.{append-nil}
 use Rattle.std.proofs.lemmas.List.Elements.{Contains-append_cases, Contains-append_right}
-use Rattle.lt_isa.specs.Object.{Parts}
-use Rattle.lt_isa.specs.Ranges.{IsInRange}
-use Rattle.lt_isa.specs.Machine.{State, Observed, Halted, slot, read_event, write_event}
-use Rattle.lt_isa.specs.Shape.{IsShaped}
-use Rattle.lt_isa.specs.Step.{StepResult, Goes, Stops, Faults, step, step_start}
-use Rattle.lt_isa.specs.Trace.{Stamped, seen_at, stamped, trace_from, final_from, HaltsAt}
+use Rattle.lt_isa.specs.Prelude.{Parts, IsInRange, State, Observed, Halted, slot, read_event, write_event, IsShaped, StepResult, Goes, Stops, Faults, step, step_start, Stamped, seen_at, stamped, trace_from, final_from, HaltsAt}
 use Rattle.lt_isa.proofs.Steps.{step-later, step_start-least}
 use Rattle.lt_isa.proofs.Runs.{trace_from-past, trace_from-goes, trace_from-stops, trace_from-faults, final_from-past, final_from-goes, final_from-stops, final_from-faults}
 use Rattle.lt_isa.proofs.Ends.{step-no_halt, stamped-halt}
 use Rattle.banks.specs.declared.bank.Leaves.{Leaves}
-use Rattle.banks.specs.Accesses.{Access, accessed, accessed_then, accesses_from, at_most_one}
+use Rattle.banks.specs.Prelude.{Access, accessed, accessed_then, accesses_from, at_most_one}
 use Rattle.banks.proofs.AccessRuns.{accesses_from-past, accesses_from-step}
 use Rattle.banks.proofs.ShownAccesses.{event_of_outcome, step-bank, told_bank}
 use Rattle.processor.specs.declared.done.Untold.{Untold}
-use Rattle.processor.specs.declared.done.Untold.TheVariants as done
 use Rattle.processor.specs.declared.ends.End.{End}
-use Rattle.processor.specs.declared.ends.End.TheVariants as end
-use Rattle.processor.specs.Ends.{Broke, BrokeOff, EndsAs, NoHalt, oblivious_count, path_count}
-use Rattle.processor.specs.ObliviousBanks.{ComeBy, MayAccess, OfBoth, ShowsOn, oram_of, paths_shown}
-use Rattle.processor.specs.Stepping.{LeavesState, on_slot, outcome_of, told_of_step, went_of, CameTo, StaysOnFault, StaysIfFaulted, StepBroke, StepTold}
-use Rattle.processor.specs.Machines.{Running}
-use Rattle.processor.specs.declared.done.Went.TheVariants as went
-use Rattle.processor.specs.Watching.{WatcherTold, run_shown, with_paths}
+use Rattle.processor.specs.Prelude.{Broke, BrokeOff, EndsAs, NoHalt, oblivious_count, path_count, ComeBy, MayAccess, OfBoth, ShowsOn, oram_of, paths_shown, LeavesState, on_slot, outcome_of, told_of_step, went_of, CameTo, StaysOnFault, StaysIfFaulted, StepBroke, StepTold, Running, WatcherTold, run_shown, with_paths}
 use Rattle.processor.proofs.ComingBy.{access-shows_on, come-on, shows_on-none, shows_on-then}
 use Rattle.processor.proofs.CountedPaths.{counts_on, most_one, none_before, oblivious_count-append, path_count-append, step_counted}
 use Rattle.processor.proofs.TellingPaths.{left_behind, run_shown-step, step-last_event}
+use Rattle.processor.specs.declared.done.Untold.TheVariants as done
+use Rattle.processor.specs.declared.ends.End.TheVariants as end
+use Rattle.processor.specs.declared.done.Went.TheVariants as went
 
 -- A run up to cycle m shows and accesses these things, and then what a run from a second state on does.
 pub record GoneTo {B : Type 0} (shows : B → List ℕ → List Leaves) (o : Parts) (first : State) (banks : List B)
@@ -105,10 +96,8 @@ came_to done.Fault outcome t is = is
 -- what stays at a fault
 pub stays_if_faulted : {B : Type 0} (left : Untold) (before now : Running B)
     → StaysOnFault left before now → StaysIfFaulted (went_of left) before.state now.state
-stays_if_faulted (done.Read k leaves) before now stays = tt
-stays_if_faulted (done.Wrote k leaves) before now stays = tt
-stays_if_faulted done.Stopped before now stays = tt
 stays_if_faulted done.Fault before now stays = ap (λ m. m.state) stays
+stays_if_faulted other before now stays = tt
 
 -- the watcher is torn at the first thing, or at another one
 pub broke_first : {W : Type 0} (hears : W → List WatcherTold → W → Type 0) (before now : W)

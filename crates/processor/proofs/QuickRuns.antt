@@ -4,23 +4,15 @@ use Rattle.std.specs.Prelude.{slice_get}
 use Rattle.std.proofs.lemmas.Option.{slice_get-get_or}
 use Rattle.lt_isa.specs.declared.instructions.Instr.{Instr}
 use Rattle.lt_isa.specs.declared.instructions.Instr.TheVariants.{Nop, Halt, Li, Alu, Ldb, Stb, Idb, Ldw, Stw, Jmp, Br}
-use Rattle.lt_isa.specs.Object.{Parts}
-use Rattle.lt_isa.specs.Ranges.{IsInRange}
-use Rattle.lt_isa.specs.Machine.{Slot, Unbound, Bound, State, Observed, set_block, slot, write_event}
-use Rattle.lt_isa.specs.Shape.{IsShaped}
-use Rattle.lt_isa.specs.Step.{Goes, executed, passed, start_of, step, step_start, with_bound}
-use Rattle.lt_isa.specs.Trace.{trace_from}
+use Rattle.lt_isa.specs.Prelude.{Parts, IsInRange, Slot, Unbound, Bound, State, Observed, set_block, slot, write_event, IsShaped, Goes, executed, passed, start_of, step, step_start, with_bound, trace_from}
 use Rattle.lt_isa.proofs.Steps.{step-at, step_start-at}
 use Rattle.lt_isa.proofs.Runs.{trace_from-goes, final_from-goes}
 use Rattle.lt_isa.proofs.Shapes.{step-shaped}
-use Rattle.banks.specs.Accesses.{accessed, accessed_by, accesses_from, at_most_one}
+use Rattle.banks.specs.Prelude.{accessed, accessed_by, accesses_from, at_most_one}
 use Rattle.banks.specs.declared.bank.Leaves.{Leaves}
 use Rattle.banks.proofs.AccessRuns.{accessed-at, accesses_from-step}
 use Rattle.processor.specs.declared.quick.Point.{Point}
-use Rattle.processor.specs.Quick.{CameAlike, PassesQuickly, RunsAlike, RunsAlikeOn, state_at}
-use Rattle.processor.specs.Stores.{Pad}
-use Rattle.processor.specs.ObliviousBanks.{paths_shown}
-use Rattle.processor.specs.Watching.{WatcherTold, with_paths}
+use Rattle.processor.specs.Prelude.{CameAlike, PassesQuickly, RunsAlike, RunsAlikeOn, state_at, Pad, paths_shown, WatcherTold, with_paths}
 use Rattle.processor.proofs.Progress.{Progress}
 
 -- an instruction that shows nothing accesses nothing and waits for nothing
@@ -34,19 +26,12 @@ no_store Unbound event next t goes = cc
 no_store (Bound b a words) event next t goes = cc
 
 silent : (o : Parts) (s : State) (i : Instr) (t : State) → executed o s i ≡ Goes None t → IsSilent o s i
-silent o s Nop t goes = record { no_access = refl; at_once = refl }
 silent o s Halt t goes = absurd cc
-silent o s (Li rd value) t goes = record { no_access = refl; at_once = refl }
-silent o s (Alu op rd ra rb) t goes = record { no_access = refl; at_once = refl }
 silent o s (Ldb k b r) t goes = absurd cc
 silent o s (Stb k) t goes =
     absurd (no_store (slot s k) (λ b a words. write_event b a words)
     (λ b a words. set_block (passed o (Stb k) false b (s.place + 1) s) b a words) t goes)
-silent o s (Idb rd k) t goes = record { no_access = refl; at_once = refl }
-silent o s (Ldw rd k ro) t goes = record { no_access = refl; at_once = refl }
-silent o s (Stw rs k ro) t goes = record { no_access = refl; at_once = refl }
-silent o s (Jmp offset) t goes = record { no_access = refl; at_once = refl }
-silent o s (Br cmp ra rb offset) t goes = record { no_access = refl; at_once = refl }
+silent o s other t goes = record { no_access = refl; at_once = refl }
 
 pub alike-itself : (o : Parts) (s : State) (n : ℕ) → RunsAlike o s s n
 alike-itself o s n = record { trace = refl; final = refl; accesses = refl }

@@ -6,17 +6,11 @@ use Rattle.std.proofs.lemmas.List.{length-replicate, length-map, get_or-map}
 use Rattle.std.proofs.lemmas.List.Elements.{All-replicate}
 use Rattle.std.proofs.lemmas.Option.{slice_get-get_or, slice_get_past}
 use Rattle.std.proofs.Math.Facts.{sfits_lit}
-use Rattle.gr_word.specs.Words.{IsWord}
+use Rattle.gr_word.specs.Prelude.{IsWord}
 use Rattle.lt_isa.specs.declared.symbols.Symbol.{Symbol}
-use Rattle.lt_isa.specs.Object.{Parts, block_words}
-use Rattle.lt_isa.specs.Ranges.{IsInRange, SymbolFits}
-use Rattle.lt_isa.specs.Machine.{Slot, Unbound}
-use Rattle.lt_isa.specs.Shape.{IsShaped, SlotFits}
-use Rattle.lt_isa.specs.Start.{start_banks, start_state}
+use Rattle.lt_isa.specs.Prelude.{Parts, block_words, IsInRange, SymbolFits, Slot, Unbound, IsShaped, SlotFits, start_banks, start_state}
 use Rattle.gr_base.proofs.EachAfter.{EachAfter-at}
-use Rattle.processor.specs.Machines.{Running, fresh_state, AreBanksOf, LiesIn}
-use Rattle.processor.specs.Stores.{Pad}
-use Rattle.processor.specs.Stepping.{IsSound}
+use Rattle.processor.specs.Prelude.{Running, fresh_state, AreBanksOf, LiesIn, Pad, IsSound}
 
 -- loaded with the banks of the start, a machine is in the start state
 pub fresh_state-start : (o : Parts) (inputs : List (List ℤ)) → fresh_state (start_banks o inputs) ≡ start_state o inputs

@@ -4,16 +4,14 @@ use Rattle.std.proofs.lemmas.List.{drop_all, get_or-take, get_or-drop}
 use Rattle.std.proofs.lemmas.List.FromFn.{fill_by_all}
 use Rattle.std.proofs.lemmas.Nat.{pow_pos}
 use Rattle.std.proofs.Math.Nat.{mul-div_cancel}
-use Rattle.gr_word.specs.Fitting.{words_at}
+use Rattle.gr_word.specs.Prelude.{words_at}
 use Rattle.lt_isa.specs.declared.symbols.Symbol.{Symbol}
-use Rattle.lt_isa.specs.Object.{Parts, block_words, blocks_of, first_word, end_word}
-use Rattle.lt_isa.specs.Ranges.{IsInRange, SymbolFits}
-use Rattle.lt_isa.specs.Start.{FitsObject, covers, start_word, start_block, start_bank}
+use Rattle.lt_isa.specs.Prelude.{Parts, block_words, blocks_of, first_word, end_word, IsInRange, SymbolFits, FitsObject, covers, start_word, start_block, start_bank}
 use Rattle.lt_isa.proofs.StartOutputs.{fitting-count, fitting-length}
 use Rattle.gr_base.proofs.EachAfter.{EachAfter-at}
-use Rattle.banks.specs.Blocks.{Blocks, block_of_words, cut, filled_up, in_blocks, words_of_blocks}
+use Rattle.banks.specs.Prelude.{Blocks, block_of_words, cut, filled_up, in_blocks, words_of_blocks}
 use Rattle.banks.proofs.Blocks.{length-cut, block-cut, length-block_of_words, words_of_cut, length-filled_up, get_or-filled_up}
-use Rattle.processor.specs.Starting.{starting_bank}
+use Rattle.processor.specs.Prelude.{starting_bank}
 
 -- some words, followed by zeros, once the variables from number k on were written there
 abbrev pub IsFilled : ℕ → List Symbol → List (List ℤ) → ℕ → ℕ → List ℤ → Type 0

@@ -2,24 +2,14 @@
 use Rattle.std.proofs.Common.{◌≡◌, ◌≢◌, ℕ, zero, suc, ◌≤◌, ◌<◌, cond, List, [], ◌∷◌, ◌++◌, drop, length, get_or, Option, Some, None, refl, sym, ap, ◌∙◌, ⊎_elim, arith}
 use Rattle.std.proofs.lemmas.Bool.{cases_eq, eq-eqb, ne_eqb, false≢true}
 use Rattle.std.specs.Prelude.{◌==◌, IsSome}
-use Rattle.lt_isa.specs.Object.{Parts}
-use Rattle.lt_isa.specs.Ranges.{IsInRange}
-use Rattle.lt_isa.specs.Machine.{State, Observed}
-use Rattle.lt_isa.specs.Shape.{IsShaped}
-use Rattle.lt_isa.specs.Step.{StepResult, Goes, Stops, Faults, step, step_start}
-use Rattle.lt_isa.specs.Trace.{Stamped, seen_at, stamped, trace_from}
+use Rattle.lt_isa.specs.Prelude.{Parts, IsInRange, State, Observed, IsShaped, StepResult, Goes, Stops, Faults, step, step_start, Stamped, seen_at, stamped, trace_from}
 use Rattle.lt_isa.proofs.Runs.{trace_from-goes, trace_from-stops, trace_from-faults}
 use Rattle.banks.specs.declared.bank.Leaves.{Leaves}
-use Rattle.banks.specs.Banks.{no_leaves}
-use Rattle.banks.specs.Accesses.{Access, accessed, accesses_from, in_bank, at_most_one}
-use Rattle.banks.specs.ObliviousEvents.{oblivious}
+use Rattle.banks.specs.Prelude.{no_leaves, Access, accessed, accesses_from, in_bank, at_most_one, oblivious}
 use Rattle.banks.proofs.InBank.{in_bank-other, in_bank-this}
 use Rattle.banks.proofs.ShownAccesses.{event_of_outcome, if_oblivious, made_bank, step-bank, told_bank}
 use Rattle.banks.proofs.AccessRuns.{accesses_from-step}
-use Rattle.processor.specs.ObliviousBanks.{Accessed, MayAccess, OfBoth, oram_of, paths_shown, shown_of}
-use Rattle.processor.specs.Stepping.{may_show, told_of_step}
-use Rattle.processor.specs.Watching.{WatcherTold, AnEvent, APath, events_in, left_paths, next_of, path_behind, run_shown, with_path, with_paths}
-use Rattle.processor.specs.Keeping.{events_in-append}
+use Rattle.processor.specs.Prelude.{Accessed, MayAccess, OfBoth, oram_of, paths_shown, shown_of, may_show, told_of_step, WatcherTold, AnEvent, APath, events_in, left_paths, next_of, path_behind, run_shown, with_path, with_paths, events_in-append}
 
 -- if each bank shows the same paths, the same paths are reported
 pub with_paths-same : (events : List Stamped) (p q : ℕ → List Leaves)

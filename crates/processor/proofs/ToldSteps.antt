@@ -1,17 +1,11 @@
 -- What is reported of a step, by what its instruction left to report.
 use Rattle.std.proofs.Common.{◌≡◌, ℕ, List, [], ◌∷◌, ◌++◌, length, Option, None, refl, sym, ap, subst, arith, length-append}
-use Rattle.lt_isa.specs.Object.{Parts}
-use Rattle.lt_isa.specs.Machine.{State}
-use Rattle.lt_isa.specs.Step.{Faults, step, step_start}
+use Rattle.lt_isa.specs.Prelude.{Parts, State, Faults, step, step_start}
 use Rattle.banks.specs.declared.bank.Leaves.{Leaves}
-use Rattle.banks.specs.Accesses.{Access, accessed}
-use Rattle.banks.specs.Banks.{no_leaves}
+use Rattle.banks.specs.Prelude.{Access, accessed, no_leaves}
 use Rattle.processor.specs.declared.done.Untold.{Untold}
+use Rattle.processor.specs.Prelude.{Broke, MayAccess, LeavesState, StepBroke, StepTold, accessed_of, leaves_of, outcome_of, told_of_step, WatcherTold}
 use Rattle.processor.specs.declared.done.Untold.TheVariants as done
-use Rattle.processor.specs.Ends.{Broke}
-use Rattle.processor.specs.ObliviousBanks.{MayAccess}
-use Rattle.processor.specs.Stepping.{LeavesState, StepBroke, StepTold, accessed_of, leaves_of, outcome_of, told_of_step}
-use Rattle.processor.specs.Watching.{WatcherTold}
 
 module _ {B W : Type 0} (shows : B → List ℕ → List Leaves) (comes : B → List ℕ → B → Type 0)
     (hears : W → List WatcherTold → W → Type 0) (o : Parts) (s : State) (before : List B) where
@@ -29,11 +23,9 @@ module _ {B W : Type 0} (shows : B → List ℕ → List Leaves) (comes : B → 
   left_by : (left : Untold) (t : State) (stamp : ℕ) (told : List WatcherTold) (next : WatcherTold)
       (rest : List WatcherTold) → told_of_step stamp (outcome_of left t) (leaves_of left) ≡ told ++ next ∷ rest
       → LeavesState (outcome_of left t) t
-  left_by (done.Read k leaves) t stamp told next rest is = refl
-  left_by (done.Wrote k leaves) t stamp told next rest is = refl
-  left_by done.Stopped t stamp told next rest is = refl
   left_by done.Fault t stamp told next rest is =
       absurd (omega (arith, ap length is, length-append told (next ∷ rest)))
+  left_by other t stamp told next rest is = refl
 
   -- an instruction
   module _ (now : List B) (was is : W) where

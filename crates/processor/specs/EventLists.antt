@@ -4,8 +4,8 @@ use Rattle.std.specs.Prelude.{◌+◌, ◌≤◌, ℤ, List, length, map, take, 
 use Rattle.lt_isa.specs.Machine.{Observed, RamRead, RamWrite, EncRead, EncWrite, Oram, Halted}
 use Rattle.lt_isa.specs.Trace.{Stamped, seen_at}
 use Rattle.processor.specs.declared.event_list.EventKind.{EventKind}
-use Rattle.processor.specs.declared.event_list.EventKind.TheVariants as kind
 use Rattle.processor.specs.declared.event_list.EventEntry.{EventEntry}
+use Rattle.processor.specs.declared.event_list.EventKind.TheVariants as kind
 
 -- the event of a kind that shows these words
 abbrev pub event_of : EventKind → List ℤ → Observed

@@ -1,11 +1,11 @@
 -- Instructions in their flat form, and the code that they represent. Only for proofs and for the contracts of private
 -- functions.
 use Rattle.std.specs.Prelude.{◌≡◌, ℕ, ◌<◌, ◌⊎◌, List, length, slice_index_or}
-use Rattle.gr_word.specs.declared.operations.Op.TheVariants as op
-use Rattle.gr_word.specs.declared.operations.Cmp.TheVariants as cmp
 use Rattle.lt_isa.specs.declared.instructions.Instr.{Instr}
 use Rattle.lt_isa.specs.declared.instructions.Instr.TheVariants.{Nop, Halt, Li, Alu, Ldb, Stb, Idb, Ldw, Stw, Jmp, Br}
 use Rattle.processor.specs.declared.flat.Flat.{Flat}
+use Rattle.gr_word.specs.declared.operations.Op.TheVariants as op
+use Rattle.gr_word.specs.declared.operations.Cmp.TheVariants as cmp
 use Rattle.processor.specs.declared.flat.Flat.TheVariants as flat
 
 -- the instruction that a flat form is made of; that of a halt, a load or a store of a block is read as a halt
@@ -37,17 +37,10 @@ instr_of (flat.Ge ra rb offset) = Br cmp.Ge ra rb offset
 
 -- a halt, or a load or a store of a block
 abbrev pub IsForStep : Instr → Type 0
-IsForStep Nop = ⊥
 IsForStep Halt = Unit {0}
-IsForStep (Li rd value) = ⊥
-IsForStep (Alu op rd ra rb) = ⊥
 IsForStep (Ldb k b r) = Unit {0}
 IsForStep (Stb k) = Unit {0}
-IsForStep (Idb rd k) = ⊥
-IsForStep (Ldw rd k ro) = ⊥
-IsForStep (Stw rs k ro) = ⊥
-IsForStep (Jmp offset) = ⊥
-IsForStep (Br cmp ra rb offset) = ⊥
+IsForStep other = ⊥
 
 -- a flat form is made of an instruction; one of them is that of every halt, load and store of a block
 abbrev pub IsFlatForm : Flat → Instr → Type 0

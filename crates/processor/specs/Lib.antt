@@ -20,3 +20,4 @@ pub use Rattle.banks.specs.Accesses
 pub use Rattle.banks.specs.ObliviousEvents
 pub use Rattle.gr_base.specs.Calls
 pub use Rattle.gr_base.specs.Counts
+pub mod Prelude

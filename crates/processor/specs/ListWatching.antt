@@ -11,10 +11,7 @@ use Rattle.processor.specs.Watching.{WatcherTold, AnEvent, APath, events_in}
 abbrev pub event_words : Observed → List ℤ
 event_words (RamRead block words) = words
 event_words (RamWrite block words) = words
-event_words (EncRead block) = []
-event_words (EncWrite block) = []
-event_words (Oram bank) = []
-event_words Halted = []
+event_words other = []
 
 -- how many words some events show together
 abbrev pub word_count : List Stamped → ℕ

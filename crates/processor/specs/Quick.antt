@@ -20,16 +20,14 @@ state_at registers slots banks at =
 -- An instruction is left for a step: a halt, or a load or a store of a block. Any other is a fault.
 abbrev pub IsLeft : Parts → State → Instr → Type 0
 IsLeft o s Nop = executed o s Nop ≡ Faults
-IsLeft o s Halt = Unit {0}
 IsLeft o s (Li rd value) = executed o s (Li rd value) ≡ Faults
 IsLeft o s (Alu op rd ra rb) = executed o s (Alu op rd ra rb) ≡ Faults
-IsLeft o s (Ldb k b r) = Unit {0}
-IsLeft o s (Stb k) = Unit {0}
 IsLeft o s (Idb rd k) = executed o s (Idb rd k) ≡ Faults
 IsLeft o s (Ldw rd k ro) = executed o s (Ldw rd k ro) ≡ Faults
 IsLeft o s (Stw rs k ro) = executed o s (Stw rs k ro) ≡ Faults
 IsLeft o s (Jmp offset) = executed o s (Jmp offset) ≡ Faults
 IsLeft o s (Br cmp ra rb offset) = executed o s (Br cmp ra rb offset) ≡ Faults
+IsLeft o s other = Unit {0}
 
 -- the next instruction is left for a step, or there is none
 abbrev pub StandsForStep : Parts → State → Type 0

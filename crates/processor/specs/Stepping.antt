@@ -11,13 +11,13 @@ use Rattle.banks.specs.declared.bank.Leaves.{Leaves}
 use Rattle.banks.specs.Accesses.{Access, access_on, accessed, accessed_by}
 use Rattle.banks.specs.Banks.{no_leaves}
 use Rattle.processor.specs.declared.done.Untold.{Untold}
-use Rattle.processor.specs.declared.done.Untold.TheVariants as done
 use Rattle.processor.specs.declared.done.Went.{Went}
-use Rattle.processor.specs.declared.done.Went.TheVariants as went
 use Rattle.processor.specs.Ends.{Broke}
 use Rattle.processor.specs.Machines.{Running}
 use Rattle.processor.specs.ObliviousBanks.{MayAccess}
 use Rattle.processor.specs.Watching.{WatcherTold, with_path}
+use Rattle.processor.specs.declared.done.Untold.TheVariants as done
+use Rattle.processor.specs.declared.done.Went.TheVariants as went
 
 -- A machine is sound: its state has the shape of its object, scratchpad and banks have room for the object's blocks,
 -- and its cycle is far from the greatest number.
@@ -67,10 +67,8 @@ StaysIfFaulted went.Faulted before now = now ≡ before
 
 -- only a fault changes nothing at all
 abbrev pub StaysOnFault : {B : Type 0} → Untold → Running B → Running B → Type 0
-StaysOnFault (done.Read k leaves) before now = Unit {0}
-StaysOnFault (done.Wrote k leaves) before now = Unit {0}
-StaysOnFault done.Stopped before now = Unit {0}
 StaysOnFault done.Fault before now = now ≡ before
+StaysOnFault other before now = Unit {0}
 
 -- the slot whose access is to be told is a slot, and bound
 abbrev pub NamesSlot : Untold → State → Type 0

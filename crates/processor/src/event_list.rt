@@ -1,7 +1,5 @@
 ghost use Rattle.std.specs.Prelude.{◌≡◌, ◌+◌, ◌<◌, ◌≤◌, [], ◌∷◌, ◌++◌, IfOk, length, slice_index_or, false, vec_len, vec_capacity};
-ghost use Rattle.lt_isa.specs.Events.{observed_of};
-ghost use Rattle.lt_isa.specs.Machine.{Halted};
-ghost use Rattle.lt_isa.specs.Trace.{seen_at};
+ghost use Rattle.lt_isa.specs.Prelude.{observed_of, Halted, seen_at};
 ghost use Rattle.processor.specs.EventLists.{event_of, entry_words};
 ghost use Rattle.processor.specs.ListWatching.{event_words, passes_room, told_more};
 

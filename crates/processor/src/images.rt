@@ -1,21 +1,6 @@
-ghost use Rattle.std.specs.Prelude.{
-  ◌≡◌,
-  ℕ,
-  ◌-◌,
-  ◌*◌,
-  ◌<◌,
-  ◌≤◌,
-  if◌then◌else◌,
-  pos,
-  [],
-  IfOk,
-  length,
-  slice_index_or,
-  vec_capacity,
-};
-ghost use Rattle.lt_isa.specs.Object.{block_words, blocks_of, first_word, end_word};
-ghost use Rattle.lt_isa.specs.Start.{FitsObject, covers, start_word, start_bank};
-ghost use Rattle.banks.specs.Blocks.{in_blocks, words_of_blocks};
+ghost use Rattle.std.specs.Prelude.{◌≡◌, ℕ, ◌-◌, ◌*◌, ◌<◌, ◌≤◌, if◌then◌else◌, pos, [], IfOk, length, slice_index_or, vec_capacity};
+ghost use Rattle.lt_isa.specs.Prelude.{block_words, blocks_of, first_word, end_word, FitsObject, covers, start_word, start_bank};
+ghost use Rattle.banks.specs.Prelude.{in_blocks, words_of_blocks};
 
 use banks::{fill_up, write_at};
 use gr_word::{Inputs, Memory};

@@ -1,12 +1,6 @@
 ghost use Rattle.std.specs.Prelude.{◌≡◌, ℕ, ◌≤◌, ℤ, List, ◌++◌, Option, Some};
-ghost use Rattle.lt_isa.specs.Machine.{Observed, State};
-ghost use Rattle.lt_isa.specs.Object.{Parts};
-ghost use Rattle.lt_isa.specs.Ranges.{IsInRange};
-ghost use Rattle.lt_isa.specs.Shape.{IsShaped};
-ghost use Rattle.lt_isa.specs.Start.{FitsObject, final, start_state};
-ghost use Rattle.lt_isa.specs.Step.{Goes, Stops, step};
-ghost use Rattle.lt_isa.specs.Trace.{Reaches, Stamped, final_from, trace_from};
-ghost use Rattle.banks.specs.Accesses.{accesses_from, in_bank};
+ghost use Rattle.lt_isa.specs.Prelude.{Observed, State, Parts, IsInRange, IsShaped, FitsObject, final, start_state, Goes, Stops, step, Reaches, Stamped, final_from, trace_from};
+ghost use Rattle.banks.specs.Prelude.{accesses_from, in_bank};
 ghost use Rattle.processor.specs.Ends.{EndsAs};
 ghost use Rattle.processor.specs.Joining.{RunsJoin};
 ghost use Rattle.processor.specs.ListWatching.{paths_in};

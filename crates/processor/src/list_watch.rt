@@ -1,14 +1,6 @@
 ghost use Rattle.std.specs.Prelude.{◌≡◌, ◌==◌, ◌<◌, ◌≤◌, [], ◌∷◌, IfOk, OnErr, OnOk, is_err, length, slice_index_or};
-ghost use Rattle.lt_isa.specs.Events.{observed_of};
-ghost use Rattle.lt_isa.specs.Machine.{Halted};
-ghost use Rattle.lt_isa.specs.Trace.{seen_at};
-ghost use Rattle.processor.specs.ListWatching.{
-  KeepsMore,
-  after_path,
-  after_seen,
-  path_fails,
-  seen_fails,
-};
+ghost use Rattle.lt_isa.specs.Prelude.{observed_of, Halted, seen_at};
+ghost use Rattle.processor.specs.ListWatching.{KeepsMore, after_path, after_seen, path_fails, seen_fails};
 ghost use Rattle.processor.specs.Watching.{AnEvent, APath};
 
 use crate::event_list::{EventList, push_within};

@@ -1,8 +1,6 @@
 ghost use Rattle.std.specs.Prelude.{◌≡◌, ◌<◌, [], ◌∷◌, IfOk, IfSome, IsSomeAnd, ◌≤◌, drop, length, map, slice_get, true, Some};
-ghost use Rattle.gr_word.specs.Fitting.{AreWords, words_at};
-ghost use Rattle.lt_isa.specs.Ranges.{IsInRange};
-ghost use Rattle.lt_isa.specs.Shape.{IsShaped};
-ghost use Rattle.lt_isa.specs.Outputs.{outputs, symbol_word, symbol_words};
+ghost use Rattle.gr_word.specs.Prelude.{AreWords, words_at};
+ghost use Rattle.lt_isa.specs.Prelude.{IsInRange, IsShaped, outputs, symbol_word, symbol_words};
 ghost use Rattle.processor.specs.Machines.{AreBanksOf, LiesIn, bank_numbered, fresh_state};
 ghost use Rattle.processor.specs.ObliviousBanks.{oram_of};
 

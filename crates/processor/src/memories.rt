@@ -1,7 +1,7 @@
 ghost use Rattle.std.specs.Prelude.{◌≡◌, ◌<◌, ◌∷◌, length, map, slice_set};
-ghost use Rattle.banks.specs.Banks.{AreLeaves, block_numbered};
+ghost use Rattle.banks.specs.Prelude.{AreLeaves, block_numbered};
 ghost use Rattle.processor.specs.ObliviousBanks.{Accessed};
-ghost use Rattle.lt_isa.specs.Machine.{word_in};
+ghost use Rattle.lt_isa.specs.Prelude.{word_in};
 ghost use Rattle.processor.specs.Machines.{bank_numbered};
 
 use banks::{Bank, Leaves};

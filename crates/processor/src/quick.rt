@@ -1,10 +1,7 @@
 ghost use Rattle.std.specs.Prelude.{◌≡◌, ◌<◌, ◌≤◌, ◌+◌, ◌^◌, List, ℤ, Some, length};
-ghost use Rattle.gr_word.specs.Words.{applied};
+ghost use Rattle.gr_word.specs.Prelude.{applied};
 ghost use Rattle.lt_isa.specs.declared.instructions.Instr.TheVariants.{Li, Alu, Idb, Ldw, Stw, Jmp, Br};
-ghost use Rattle.lt_isa.specs.Costs.{operation_cost};
-ghost use Rattle.lt_isa.specs.Object.{Parts, block_words};
-ghost use Rattle.lt_isa.specs.Ranges.{IsInRange, InstrFits};
-ghost use Rattle.lt_isa.specs.Step.{target_of, word_named};
+ghost use Rattle.lt_isa.specs.Prelude.{operation_cost, Parts, block_words, IsInRange, InstrFits, target_of, word_named};
 ghost use Rattle.processor.specs.Flat.{IsFlatOf, instr_of};
 ghost use Rattle.processor.specs.Quick.{CameAlike, PassesQuickly, StandsForStep, state_at};
 ghost use Rattle.processor.specs.Stores.{Pad};

@@ -1,27 +1,12 @@
 ghost use Rattle.std.specs.Prelude.{◌≡◌, ◌<◌, ◌≤◌, ◌-◌, ◌^◌, IfOk, IfSome, IsTrue, OnErr, OnOk, OnSome, is_ok, false};
-ghost use Rattle.gr_base.specs.Counts.{Rose};
-ghost use Rattle.lt_isa.specs.Events.{observed_of};
-ghost use Rattle.lt_isa.specs.Machine.{read_event, write_event};
-ghost use Rattle.lt_isa.specs.Ranges.{IsInRange};
-ghost use Rattle.lt_isa.specs.Shape.{IsShaped};
-ghost use Rattle.lt_isa.specs.Step.{step, step_start};
-ghost use Rattle.lt_isa.specs.Trace.{final_from, seen_at, trace_from};
-ghost use Rattle.banks.specs.Accesses.{accesses_from};
+ghost use Rattle.gr_base.specs.Prelude.{Rose};
+ghost use Rattle.lt_isa.specs.Prelude.{observed_of, read_event, write_event, IsInRange, IsShaped, step, step_start, final_from, seen_at, trace_from};
+ghost use Rattle.banks.specs.Prelude.{accesses_from, oblivious};
 ghost use Rattle.processor.specs.Ends.{AfterCalls, Broke, BrokeOff, EndsAs, is_spent};
 ghost use Rattle.processor.specs.ObliviousBanks.{ComeBy, ShowsOn};
 ghost use Rattle.processor.specs.Pauses.{PausesAt};
 ghost use Rattle.processor.specs.Quick.{RunsAlikeOn, StandsForStep};
-ghost use Rattle.processor.specs.Stepping.{
-  CameTo,
-  NamesSlot,
-  StaysIfFaulted,
-  StepBroke,
-  StepTold,
-  leaves_of,
-  outcome_of,
-  told_of_step,
-};
-ghost use Rattle.banks.specs.ObliviousEvents.{oblivious};
+ghost use Rattle.processor.specs.Stepping.{CameTo, NamesSlot, StaysIfFaulted, StepBroke, StepTold, leaves_of, outcome_of, told_of_step};
 ghost use Rattle.processor.specs.Watching.{run_shown, with_path};
 
 use crate::done::{Untold, Went};

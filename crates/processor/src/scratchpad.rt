@@ -1,6 +1,6 @@
 ghost use Rattle.std.specs.Prelude.{◌≡◌, ◌<◌, IfOk, IfSome, length, map, replicate, slice_index_or, slice_set};
-ghost use Rattle.lt_isa.specs.Machine.{Bound, Unbound};
-ghost use Rattle.banks.specs.Banks.{AreLeaves, block_numbered};
+ghost use Rattle.lt_isa.specs.Prelude.{Bound, Unbound};
+ghost use Rattle.banks.specs.Prelude.{AreLeaves, block_numbered};
 ghost use Rattle.processor.specs.Machines.{bank_numbered};
 ghost use Rattle.processor.specs.ObliviousBanks.{Accessed};
 

@@ -1,8 +1,7 @@
 ghost use Rattle.std.specs.Prelude.{◌≡◌, ◌-◌, ◌<◌, ◌≤◌, [], ◌∷◌, true, All, IfOk, length, map};
 ghost use Rattle.std.specs.List.{range_with_len};
-ghost use Rattle.gr_word.specs.Fitting.{AreWords};
-ghost use Rattle.lt_isa.specs.Object.{block_words};
-ghost use Rattle.lt_isa.specs.Start.{FitsObject, start_bank, start_state};
+ghost use Rattle.gr_word.specs.Prelude.{AreWords};
+ghost use Rattle.lt_isa.specs.Prelude.{block_words, FitsObject, start_bank, start_state};
 ghost use Rattle.processor.specs.Starting.{starting_bank};
 
 use crate::images::start_front;

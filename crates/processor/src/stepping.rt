@@ -1,11 +1,5 @@
 ghost use Rattle.std.specs.Prelude.{◌≡◌, ◌<◌, ◌+◌, ◌^◌, IfSome, length, slice_get};
-ghost use Rattle.lt_isa.specs.Costs.{cost_of};
-ghost use Rattle.lt_isa.specs.Machine.{register};
-ghost use Rattle.lt_isa.specs.Object.{blocks_of};
-ghost use Rattle.lt_isa.specs.Ranges.{IsInRange};
-ghost use Rattle.lt_isa.specs.Shape.{IsShaped};
-ghost use Rattle.lt_isa.specs.Windows.{access_start};
-ghost use Rattle.lt_isa.specs.Step.{block_named, loaded, step_start};
+ghost use Rattle.lt_isa.specs.Prelude.{cost_of, register, blocks_of, IsInRange, IsShaped, access_start, block_named, loaded, step_start};
 ghost use Rattle.processor.specs.ObliviousBanks.{Accessed};
 ghost use Rattle.processor.specs.Quick.{IsLeft};
 ghost use Rattle.processor.specs.Stepping.{Executes, IsReady};

@@ -1,6 +1,5 @@
 ghost use Rattle.std.specs.Prelude.{◌≡◌, ◌≤◌, ◌+◌, ◌<◌, ◌^◌};
-ghost use Rattle.lt_isa.specs.Step.{start_of};
-ghost use Rattle.lt_isa.specs.Windows.{access_start};
+ghost use Rattle.lt_isa.specs.Prelude.{start_of, access_start};
 
 use lt_isa::{Instr, Object};
 

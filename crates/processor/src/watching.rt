@@ -1,7 +1,6 @@
 ghost use Rattle.std.specs.Prelude.{◌≡◌, ◌≤◌, ◌^◌, ◌-◌, ℕ, List, Bool, IsTrue, OnOk, OnErr, is_ok, [], ◌∷◌, ◌++◌};
-ghost use Rattle.gr_base.specs.Counts.{Rose};
-ghost use Rattle.lt_isa.specs.Events.{observed_of};
-ghost use Rattle.lt_isa.specs.Trace.{seen_at};
+ghost use Rattle.gr_base.specs.Prelude.{Rose};
+ghost use Rattle.lt_isa.specs.Prelude.{observed_of, seen_at};
 ghost use Rattle.processor.specs.Watching.{AnEvent, APath, WatcherTold, events_in};
 
 use banks::Leaves;

@@ -1,14 +1,12 @@
 -- The statements of files by their grammar, as those of any language.
 use Rattle.std.proofs.Common.{◌≡◌, ℕ, List, [], ◌∷◌, ◌++◌, refl, ap, subst, append_assoc}
 use Rattle.src_lexer.specs.declared.tokens.TokenKind.{TokenKind}
-use Rattle.src_lexer.specs.declared.tokens.TokenKind.TheVariants as kind
-use Rattle.src_procs.specs.Trees.{Statement, Choice, Loop, Call, Block, Nothing, Then}
-use Rattle.src_procs.specs.Seen.{block_of}
-use Rattle.src_parser.specs.Grammar.{Limits}
+use Rattle.src_procs.specs.Prelude.{Statement, Choice, Loop, Call, Block, Nothing, Then, block_of}
+use Rattle.src_parser.specs.Prelude.{Limits}
 use Rattle.src_parser.proofs.Spelled.{Spelled, NoneLeft, Assigns, Stores, Decides, DecidesElse, Loops, Adds, spelled_at}
-use Rattle.procs_parser.specs.FileAdvances.{with_calls}
-use Rattle.procs_parser.specs.FileGrammar.{SpellsBlock, Ends, Sets, Puts, Calls, Chooses, ChoosesElse, Repeats}
+use Rattle.procs_parser.specs.Prelude.{with_calls, SpellsBlock, Ends, Sets, Puts, Calls, Chooses, ChoosesElse, Repeats}
 use Rattle.procs_parser.proofs.CallTokens.{IsCall, ACall}
+use Rattle.src_lexer.specs.declared.tokens.TokenKind.TheVariants as kind
 
 -- the statements of a block
 abbrev pub statements_of : Block → List Statement

@@ -2,20 +2,15 @@
 use Rattle.std.proofs.Common.{◌≡◌, ℕ, ◌+◌, Bool, true, false, List, [], Option, Some, None, refl, sym, ap, ◌∙◌, subst, arith}
 use Rattle.std.specs.Prelude.{nat_lt, bytes_eq, if◌then◌else◌}
 use Rattle.src_lexer.specs.declared.tokens.TokenKind.{TokenKind}
-use Rattle.src_lexer.specs.declared.tokens.TokenKind.TheVariants as kind
 use Rattle.src_tree.specs.declared.trees.Decl.{Decl}
-use Rattle.src_procs.specs.Trees.{Statement, Parameter, Procedure}
-use Rattle.procs_parser.specs.FileGrammar.{proc_word}
-use Rattle.src_parser.specs.Grammar.{Limits}
-use Rattle.src_parser.specs.Headings.{HeadingState, Begun, Declared, heading_advanced}
-use Rattle.src_parser.specs.Statements.{Outer, Phase, Ready, MayElse, Blocks, Among, performed, is_complete, complete_of, depth_in, depth_of}
-use Rattle.src_parser.specs.Tokenwise.{Advance, Goes, Wrong}
+use Rattle.src_procs.specs.Prelude.{Statement, Parameter, Procedure}
+use Rattle.procs_parser.specs.Prelude.{proc_word, CallStep, Still, Done, call_advanced, ParserState, Between, Declaring, Doing, Calling, Naming, Front, Outside, InProcedure, HeadPhase, Opening, NoneYet, OneMore, ScalarLabelled, ScalarTyped, ArrayTyped, ArrayTitled, ArrayClosing, Behind, AllRead, LocalFresh, LocalLabelled, LocalTyped, LocalTitled, front_depth, with_calls, head_depth, performs, ending, brace_next, target_of, bracket_next, opening, word_next, statement_next, with_call, between, parameter_begins, names_next, is_hidden_token, taken, with_heading, advanced, open_braces}
+use Rattle.src_parser.specs.Prelude.{Limits, HeadingState, Begun, Declared, heading_advanced, Outer, Phase, Ready, MayElse, Blocks, Among, performed, is_complete, complete_of, depth_in, depth_of, Advance, Goes, Wrong}
 use Rattle.src_parser.proofs.Tokenwise.{Counted}
 use Rattle.src_parser.proofs.Braces.{same_state, mapped_goes, braces_counted, heading_counted}
 use Rattle.src_parser.proofs.StatementBraces.{statements_counted}
-use Rattle.procs_parser.specs.Calls.{CallStep, Still, Done, call_advanced}
-use Rattle.procs_parser.specs.FileAdvances.{ParserState, Between, Declaring, Doing, Calling, Naming, Front, Outside, InProcedure, HeadPhase, Opening, NoneYet, OneMore, ScalarLabelled, ScalarTyped, ArrayTyped, ArrayTitled, ArrayClosing, Behind, AllRead, LocalFresh, LocalLabelled, LocalTyped, LocalTitled, front_depth, with_calls, head_depth, performs, ending, brace_next, target_of, bracket_next, opening, word_next, statement_next, with_call, between, parameter_begins, names_next, is_hidden_token, taken, with_heading, advanced, open_braces}
 use Rattle.procs_parser.proofs.CallLimits.{call_counted}
+use Rattle.src_lexer.specs.declared.tokens.TokenKind.TheVariants as kind
 
 same_count : (x y : ParserState) → ◌≡◌ {A = Advance ParserState} (Goes x) (Goes y) → open_braces y ≡ open_braces x
 same_count x y e = ap open_braces (sym (same_state x y e))

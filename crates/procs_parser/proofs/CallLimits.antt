@@ -1,15 +1,13 @@
 -- A token of a call is read where there is room, whatever the limits, and opens no brace.
 use Rattle.std.proofs.Common.{◌≡◌, ◌≢◌, ℕ, List, [], Option, Some, None, refl}
 use Rattle.src_lexer.specs.declared.tokens.TokenKind.{TokenKind}
-use Rattle.src_lexer.specs.declared.tokens.TokenKind.TheVariants as kind
-use Rattle.src_tree.specs.Trees.{Tree}
-use Rattle.src_parser.specs.Grammar.{Limits}
-use Rattle.src_parser.specs.Operands.{Reading, At, Wanted, TokenStep, Moves, Stops, Deep, reads, whole, used_of}
-use Rattle.src_parser.specs.Tokenwise.{Goes, TooMuch}
+use Rattle.src_tree.specs.Prelude.{Tree}
+use Rattle.src_parser.specs.Prelude.{Limits, Reading, At, Wanted, TokenStep, Moves, Stops, Deep, reads, whole, used_of, Goes, TooMuch}
 use Rattle.src_parser.proofs.Tokenwise.{Shape, Counted}
 use Rattle.src_parser.proofs.Rooms.{constant, step_shape, reads_shape}
 use Rattle.src_parser.proofs.Braces.{moves_counted}
-use Rattle.procs_parser.specs.Calls.{Opened, Argument, Called, CallState, InCall, CallStep, Still, behind_argument, argument_ends, in_argument, first_argument, behind_brackets, call_advanced}
+use Rattle.procs_parser.specs.Prelude.{Opened, Argument, Called, CallState, InCall, CallStep, Still, behind_argument, argument_ends, in_argument, first_argument, behind_brackets, call_advanced}
+use Rattle.src_lexer.specs.declared.tokens.TokenKind.TheVariants as kind
 
 behind_not : (es : List Tree) (used : ℕ) (k : TokenKind) → behind_argument es used k ≢ TooMuch
 behind_not es used kind.Semi e = absurd (cc)

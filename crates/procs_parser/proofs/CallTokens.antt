@@ -2,16 +2,13 @@
 use Rattle.std.proofs.Common.{◌≡◌, ℕ, ◌+◌, List, [], ◌∷◌, ◌++◌, Option, Some, None, refl, sym, subst, append_assoc, arith}
 use Rattle.std.proofs.lemmas.List.{append-nil}
 use Rattle.src_lexer.specs.declared.tokens.TokenKind.{TokenKind}
-use Rattle.src_lexer.specs.declared.tokens.TokenKind.TheVariants as kind
-use Rattle.src_tree.specs.Trees.{Tree}
-use Rattle.src_procs.specs.Trees.{Statement, Call}
-use Rattle.src_parser.specs.Grammar.{Limits, operators, SpellsTree}
-use Rattle.src_parser.specs.Operands.{Reading, At, Wanted, TokenStep, Moves, Stops, Deep, reads, whole, used_of}
-use Rattle.src_parser.specs.Tokenwise.{Advance, Goes}
+use Rattle.src_tree.specs.Prelude.{Tree}
+use Rattle.src_procs.specs.Prelude.{Statement, Call}
+use Rattle.src_parser.specs.Prelude.{Limits, operators, SpellsTree, Reading, At, Wanted, TokenStep, Moves, Stops, Deep, reads, whole, used_of, Advance, Goes}
 use Rattle.src_parser.proofs.Held.{HasNoName, no_name_in_both, Start}
 use Rattle.src_parser.proofs.Reached.{Reached, Wants, reaches, Ended, ends, Fitting, fitting}
-use Rattle.procs_parser.specs.Calls.{Opened, Argument, Called, CallState, InCall, CallStep, Still, Done, behind_argument, argument_ends, in_argument, first_argument, call_advanced}
-use Rattle.procs_parser.specs.FileGrammar.{SpellsTrees, Last, Before, Arguments, NoArgument, Given, operators_of}
+use Rattle.procs_parser.specs.Prelude.{Opened, Argument, Called, CallState, InCall, CallStep, Still, Done, behind_argument, argument_ends, in_argument, first_argument, call_advanced, SpellsTrees, Last, Before, Arguments, NoArgument, Given, operators_of}
+use Rattle.src_lexer.specs.declared.tokens.TokenKind.TheVariants as kind
 
 -- tokens that are a call
 pub data IsCall (most : Limits) : List TokenKind → Statement → Type 0 where

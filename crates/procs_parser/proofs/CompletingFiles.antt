@@ -2,22 +2,18 @@
 use Rattle.std.proofs.Common.{◌≡◌, ℕ, ◌<◌, List, [], ◌∷◌, ◌++◌, refl, sym, ap, ◌∙◌, subst, append_assoc, arith}
 use Rattle.std.proofs.lemmas.List.{append-nil}
 use Rattle.src_lexer.specs.declared.tokens.TokenKind.{TokenKind}
-use Rattle.src_lexer.specs.declared.tokens.TokenKind.TheVariants as kind
 use Rattle.src_tree.specs.declared.trees.Decl.{Decl}
-use Rattle.src_procs.specs.Trees.{Statement, Nothing, Parameter, Procedure, File}
-use Rattle.src_procs.specs.Seen.{block_of}
-use Rattle.procs_parser.specs.FileGrammar.{HasNoHiddenName, SpellsParameter, AScalar, AnArray, Parameters, NoParameter, SomeParameters, Locals, NoLocal, proc_word, NoProcedure, SpellsBlock, Ends}
-use Rattle.src_parser.specs.Grammar.{Limits, keyword_of, Declares}
-use Rattle.src_parser.specs.Headings.{Heading, Labelled, Typed, Titled, Sizing, Sized, Closing}
-use Rattle.src_parser.specs.Statements.{Outer}
+use Rattle.src_procs.specs.Prelude.{Statement, Nothing, Parameter, Procedure, File, block_of}
+use Rattle.procs_parser.specs.Prelude.{HasNoHiddenName, SpellsParameter, AScalar, AnArray, Parameters, NoParameter, SomeParameters, Locals, NoLocal, proc_word, NoProcedure, SpellsBlock, Ends, ParserState, HeadPhase, Front, Outside, front_depth, with_calls, open_braces}
+use Rattle.src_parser.specs.Prelude.{Limits, keyword_of, Declares, Heading, Labelled, Typed, Titled, Sizing, Sized, Closing, Outer}
 use Rattle.src_parser.proofs.Held.{HasNoName}
 use Rattle.src_parser.proofs.HeadingTokens.{declares_both, rest_of, heading_completes}
 use Rattle.src_parser.proofs.Spelled.{NoneLeft, Adds, spelled_at}
 use Rattle.src_parser.proofs.StatementsStanding.{Enclosed, Completed, statement_completes, statements_complete}
-use Rattle.procs_parser.specs.FileAdvances.{ParserState, HeadPhase, Front, Outside, front_depth, with_calls, open_braces}
 use Rattle.procs_parser.proofs.BlocksSpelled.{spelled_block}
 use Rattle.procs_parser.proofs.CallTokens.{IsCall, CallCompletes, call_completes}
 use Rattle.procs_parser.proofs.StandingFiles.{Sentence, Program, Begun, AtTop, InBody, ParametersBefore, SomeBefore, head_of, Names, IsOpening, IsNoneYet, IsOneMore, IsScalarLabelled, IsScalarTyped, IsArrayTyped, IsArrayTitled, IsArrayClosing, IsBehind, IsAllRead, IsLocalFresh, IsLocalLabelled, IsLocalTyped, IsLocalTitled, one_parameter, one_local, procedure_ends, Standing, InBetween, InHeading, InHead, InStatements, InArguments}
+use Rattle.src_lexer.specs.declared.tokens.TokenKind.TheVariants as kind
 
 -- some more tokens, in which no name is hidden, make a file
 pub record Complete (most : Limits) (tokens : List TokenKind) : Type 0 where
@@ -98,10 +94,7 @@ declared_completes {most} {decls} {first} d = record {
 rest_shown : (heading : Heading) → HasNoHiddenName (rest_of heading (120 ∷ []))
 rest_shown (Labelled label) = (refl, tt)
 rest_shown (Typed label) = (refl, tt)
-rest_shown (Titled label name) = tt
-rest_shown (Sizing label name) = tt
-rest_shown (Sized label name n) = tt
-rest_shown (Closing label name n) = tt
+rest_shown other = tt
 
 -- a procedure without statements, of which this many tokens were read
 head_completes : {most : Limits} {decls locals : List Decl} {procedures : List Procedure} {name : List ℕ}

@@ -2,23 +2,16 @@
 use Rattle.std.proofs.Common.{◌≡◌, ◌<◌, false, List, [], ◌∷◌, ◌++◌, Option, Some, refl, sym, subst, append_assoc}
 use Rattle.std.proofs.lemmas.List.{append-nil}
 use Rattle.src_lexer.specs.declared.tokens.TokenKind.{TokenKind}
-use Rattle.src_lexer.specs.declared.tokens.TokenKind.TheVariants as kind
 use Rattle.src_lexer.specs.declared.tokens.Token.{Token}
-use Rattle.src_parser.specs.Grammar.{Limits}
-use Rattle.src_parser.specs.Statements.{complete_of}
-use Rattle.src_parser.specs.Readers.{ReadsTo, Stops}
-use Rattle.src_parser.specs.Tokenwise.{Goes, Completes}
+use Rattle.src_parser.specs.Prelude.{Limits, complete_of, ReadsTo, Goes, Completes}
+use Rattle.src_parser.specs.Readers.{Stops}
 use Rattle.src_parser.specs.declared.errors.ParseError.{ParseError}
-use Rattle.src_parser.specs.declared.errors.ParseError.TheVariants as error
 use Rattle.src_parser.proofs.Spelled.{Spelled}
 use Rattle.src_parser.proofs.StatementsStanding.{complete_spelled}
 use Rattle.src_parser.proofs.SeveralTokens.{stray_after, deeper_after}
 use Rattle.src_parser.proofs.Tokenwise.{Laws}
-use Rattle.src_procs.specs.Trees.{Statement, File, Nothing}
-use Rattle.src_procs.specs.Seen.{block_of}
-use Rattle.procs_parser.specs.FileGrammar.{HasNoHiddenName, SpellsFile, AFile, Ends, NoProcedure}
-use Rattle.procs_parser.specs.FileRefusals.{ExplainsFile}
-use Rattle.procs_parser.specs.FileAdvances.{ParserState, Between, Front, front_depth, with_calls, file_at, taken, is_hidden_token, program_of, open_braces}
+use Rattle.src_procs.specs.Prelude.{Statement, File, Nothing, block_of}
+use Rattle.procs_parser.specs.Prelude.{HasNoHiddenName, SpellsFile, AFile, Ends, NoProcedure, ExplainsFile, ParserState, Between, Front, front_depth, with_calls, file_at, taken, is_hidden_token, program_of, open_braces}
 use Rattle.procs_parser.proofs.BlocksSpelled.{spelled_block}
 use Rattle.procs_parser.proofs.BracesOfFiles.{shown, counted}
 use Rattle.procs_parser.proofs.CallTokens.{IsCall}
@@ -27,6 +20,8 @@ use Rattle.procs_parser.proofs.ReadFiles.{file_read}
 use Rattle.procs_parser.proofs.RoomsOfFiles.{shape}
 use Rattle.procs_parser.proofs.StandingFiles.{Sentence, Program, Begun, AtTop, Standing, InBetween, InHeading, InHead, InStatements, InArguments}
 use Rattle.procs_parser.proofs.StepsOfFiles.{steps, nothing_read}
+use Rattle.src_lexer.specs.declared.tokens.TokenKind.TheVariants as kind
+use Rattle.src_parser.specs.declared.errors.ParseError.TheVariants as error
 
 -- tokens that were taken lead to a state, and none of them is hidden
 pub record WasTaken (most : Limits) (last : ParserState) (tokens : List TokenKind) : Type 0 where

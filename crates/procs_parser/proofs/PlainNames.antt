@@ -3,10 +3,9 @@ use Rattle.std.proofs.Common.{List, ◌++◌}
 use Rattle.gr_word.specs.declared.variables.Label.TheVariants.{Public, Secret}
 use Rattle.src_lexer.specs.declared.tokens.TokenKind.{TokenKind}
 use Rattle.src_tree.specs.declared.trees.Decl.{Decl}
-use Rattle.src_parser.specs.Grammar.{Limits, Declares, NoMore, Scalar, Array}
-use Rattle.src_procs.specs.Trees.{File}
-use Rattle.procs_parser.specs.FileGrammar.{HasNoHiddenName, SpellsFile, AFile}
-use Rattle.src_procs.specs.Promise.{ArePlain}
+use Rattle.src_parser.specs.Prelude.{Limits, Declares, NoMore, Scalar, Array}
+use Rattle.src_procs.specs.Prelude.{File, ArePlain}
+use Rattle.procs_parser.specs.Prelude.{HasNoHiddenName, SpellsFile, AFile}
 
 declares_plain : {tokens : List TokenKind} {decls : List Decl} → Declares tokens decls → (more : List TokenKind)
     → HasNoHiddenName (tokens ++ more) → ArePlain decls

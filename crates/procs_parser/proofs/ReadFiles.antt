@@ -5,18 +5,14 @@ use Rattle.std.proofs.lemmas.List.{append-nil}
 use Rattle.std.proofs.lemmas.Bool.{lt-ltb}
 use Rattle.gr_word.specs.declared.variables.Label.TheVariants.{Public, Secret}
 use Rattle.src_lexer.specs.declared.tokens.TokenKind.{TokenKind}
-use Rattle.src_lexer.specs.declared.tokens.TokenKind.TheVariants as kind
 use Rattle.src_tree.specs.declared.trees.Decl.{Decl}
-use Rattle.src_procs.specs.Trees.{Block, Parameter, Procedure, File}
-use Rattle.src_parser.specs.Tokenwise as tokenwise
-use Rattle.src_parser.specs.Tokenwise.{Advance, Goes, Wrong, after_advance, with_braces}
-use Rattle.src_parser.specs.Headings.{declared}
-use Rattle.src_parser.specs.Grammar.{Limits, Declares, NoMore, Scalar, Array}
-use Rattle.procs_parser.specs.FileGrammar.{HasNoHiddenName, SpellsBlock, Ends, SpellsParameter, AScalar, AnArray, SpellsParameters, LastOne, Another, Parameters, NoParameter, SomeParameters, Locals, NoLocal, Local, Procedures, NoProcedure, AProcedure, SpellsFile, AFile}
-use Rattle.src_parser.specs.Statements.{Among, Ready}
-use Rattle.procs_parser.specs.FileAdvances.{Between, Naming, Doing, NoneYet, OneMore, Behind, AllRead, LocalFresh, Outside, InProcedure, is_hidden_token, taken, advanced, program_of, ParserState}
+use Rattle.src_procs.specs.Prelude.{Block, Parameter, Procedure, File}
+use Rattle.src_parser.specs.Prelude.{Advance, Goes, Wrong, after_advance, with_braces, declared, Limits, Declares, NoMore, Scalar, Array, Among, Ready}
+use Rattle.procs_parser.specs.Prelude.{HasNoHiddenName, SpellsBlock, Ends, SpellsParameter, AScalar, AnArray, SpellsParameters, LastOne, Another, Parameters, NoParameter, SomeParameters, Locals, NoLocal, Local, Procedures, NoProcedure, AProcedure, SpellsFile, AFile, Between, Naming, Doing, NoneYet, OneMore, Behind, AllRead, LocalFresh, Outside, InProcedure, is_hidden_token, taken, advanced, program_of, ParserState}
 use Rattle.procs_parser.proofs.BlocksSpelled.{block_again}
 use Rattle.procs_parser.proofs.StatementsOfFiles.{parsed, body_read}
+use Rattle.src_lexer.specs.declared.tokens.TokenKind.TheVariants as kind
+use Rattle.src_parser.specs.Tokenwise as tokenwise
 
 -- tokens that don't begin with a label
 abbrev NoLabel : List TokenKind → Type 0

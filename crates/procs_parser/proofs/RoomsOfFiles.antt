@@ -2,18 +2,15 @@
 use Rattle.std.proofs.Common.{◌≢◌, ℕ, Bool, true, false, List, [], Option, Some, None}
 use Rattle.std.specs.Prelude.{bytes_eq, if◌then◌else◌}
 use Rattle.src_lexer.specs.declared.tokens.TokenKind.{TokenKind}
-use Rattle.src_lexer.specs.declared.tokens.TokenKind.TheVariants as kind
 use Rattle.src_tree.specs.declared.trees.Decl.{Decl}
-use Rattle.src_procs.specs.Trees.{Statement, Parameter, Procedure}
-use Rattle.procs_parser.specs.FileGrammar.{proc_word}
-use Rattle.src_parser.specs.Headings.{heading_advanced}
-use Rattle.src_parser.specs.Statements.{Outer, Phase, Ready, Blocks, Among, is_complete, complete_of, depth_in, depth_of}
-use Rattle.src_parser.specs.Tokenwise.{Wrong, TooMuch}
+use Rattle.src_procs.specs.Prelude.{Statement, Parameter, Procedure}
+use Rattle.procs_parser.specs.Prelude.{proc_word, ParserState, Between, Declaring, Doing, Calling, Naming, Front, Outside, InProcedure, HeadPhase, Opening, NoneYet, OneMore, ScalarLabelled, ScalarTyped, ArrayTyped, ArrayTitled, ArrayClosing, Behind, AllRead, LocalFresh, LocalLabelled, LocalTyped, LocalTitled, front_depth, with_calls, performs, ending, brace_next, target_of, bracket_next, opening, word_next, statement_next, with_call, between, parameter_begins, names_next, is_hidden_token, taken, head_depth, with_heading, advanced, open_braces}
+use Rattle.src_parser.specs.Prelude.{heading_advanced, Outer, Phase, Ready, Blocks, Among, is_complete, complete_of, depth_in, depth_of, Wrong, TooMuch}
 use Rattle.src_parser.proofs.Tokenwise.{Shape}
 use Rattle.src_parser.proofs.Rooms.{constant, wrong_not_much, brace_room, mapped_shape, heading_not}
 use Rattle.src_parser.proofs.StatementRooms.{statements_shape}
-use Rattle.procs_parser.specs.FileAdvances.{ParserState, Between, Declaring, Doing, Calling, Naming, Front, Outside, InProcedure, HeadPhase, Opening, NoneYet, OneMore, ScalarLabelled, ScalarTyped, ArrayTyped, ArrayTitled, ArrayClosing, Behind, AllRead, LocalFresh, LocalLabelled, LocalTyped, LocalTitled, front_depth, with_calls, performs, ending, brace_next, target_of, bracket_next, opening, word_next, statement_next, with_call, between, parameter_begins, names_next, is_hidden_token, taken, head_depth, with_heading, advanced, open_braces}
 use Rattle.procs_parser.proofs.CallLimits.{call_shape}
+use Rattle.src_lexer.specs.declared.tokens.TokenKind.TheVariants as kind
 
 performs_shape : (front : Front) (blocks : Blocks Statement) (k : TokenKind)
     → Shape ParserState k (depth_of (front_depth front) blocks) (λ most. performs most front blocks k)

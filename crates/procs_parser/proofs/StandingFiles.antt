@@ -3,18 +3,14 @@ use Rattle.std.proofs.Common.{◌≡◌, None, ℕ, ◌<◌, List, [], ◌∷◌
 use Rattle.std.proofs.lemmas.List.{append-nil}
 use Rattle.gr_word.specs.declared.variables.Label.{Label}
 use Rattle.src_lexer.specs.declared.tokens.TokenKind.{TokenKind}
-use Rattle.src_lexer.specs.declared.tokens.TokenKind.TheVariants as kind
 use Rattle.src_tree.specs.declared.trees.Decl.{Decl}
-use Rattle.src_procs.specs.Trees.{Statement, Block, Parameter, Procedure, File}
-use Rattle.procs_parser.specs.FileGrammar.{SpellsParameter, SpellsParameters, LastOne, Another, Parameters, Locals, NoLocal, Local, proc_word, Procedures, NoProcedure, AProcedure, SpellsBlock}
-use Rattle.src_parser.specs.Grammar.{Limits, keyword_of, Declares}
-use Rattle.src_parser.specs.Headings.{Heading}
-use Rattle.src_parser.specs.Statements.{Outer, Blocks}
+use Rattle.src_procs.specs.Prelude.{Statement, Block, Parameter, Procedure, File}
+use Rattle.procs_parser.specs.Prelude.{SpellsParameter, SpellsParameters, LastOne, Another, Parameters, Locals, NoLocal, Local, proc_word, Procedures, NoProcedure, AProcedure, SpellsBlock, CallState, ParserState, Between, Declaring, Naming, Doing, Calling, HeadPhase, Opening, NoneYet, OneMore, ScalarLabelled, ScalarTyped, ArrayTyped, ArrayTitled, ArrayClosing, Behind, AllRead, LocalFresh, LocalLabelled, LocalTyped, LocalTitled, Front, Outside, InProcedure, front_depth, with_calls}
+use Rattle.src_parser.specs.Prelude.{Limits, keyword_of, Declares, Heading, Outer, Blocks}
 use Rattle.src_parser.proofs.HeadingTokens.{Heads}
 use Rattle.src_parser.proofs.StatementsStanding.{Enclosed, StatementsStand}
-use Rattle.procs_parser.specs.Calls.{CallState}
-use Rattle.procs_parser.specs.FileAdvances.{ParserState, Between, Declaring, Naming, Doing, Calling, HeadPhase, Opening, NoneYet, OneMore, ScalarLabelled, ScalarTyped, ArrayTyped, ArrayTitled, ArrayClosing, Behind, AllRead, LocalFresh, LocalLabelled, LocalTyped, LocalTitled, Front, Outside, InProcedure, front_depth, with_calls}
 use Rattle.procs_parser.proofs.CallTokens.{IsCall, CallStands}
+use Rattle.src_lexer.specs.declared.tokens.TokenKind.TheVariants as kind
 
 -- tokens that are a file, for any names
 pub data Sentence (most : Limits) : List TokenKind → File → Type 0 where

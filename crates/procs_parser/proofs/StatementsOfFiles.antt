@@ -1,23 +1,17 @@
 -- The statements of a file by the grammar are read as these statements.
 use Rattle.std.proofs.Common.{◌≡◌, ℕ, ◌+◌, ◌≤◌, Bool, true, false, List, [], ◌∷◌, ◌++◌, Option, refl, sym, ap, ◌∙◌, subst, append_assoc, arith}
 use Rattle.src_lexer.specs.declared.tokens.TokenKind.{TokenKind}
-use Rattle.src_lexer.specs.declared.tokens.TokenKind.TheVariants as kind
-use Rattle.src_tree.specs.Trees.{Tree, Test}
-use Rattle.src_procs.specs.Trees.{Statement, Block, File}
-use Rattle.src_parser.specs.Grammar.{Limits, operators, SpellsTree, Joined}
-use Rattle.src_parser.specs.Operands.{Reading, At, Wanted, reads}
-use Rattle.src_parser.specs.Parts.{Asked, Inside, Target, in_expression}
-use Rattle.src_parser.specs.Statements.{Outer, Phase, Ready, MayElse, InPart, Blocks, Among, chosen, with_part, performed, is_complete}
-use Rattle.src_parser.specs.Tokenwise as tokenwise
-use Rattle.src_parser.specs.Tokenwise.{Goes, after_advance, mapped}
+use Rattle.src_tree.specs.Prelude.{Tree, Test}
+use Rattle.src_procs.specs.Prelude.{Statement, Block, File}
+use Rattle.src_parser.specs.Prelude.{Limits, operators, SpellsTree, Joined, Reading, At, Wanted, reads, Asked, Inside, Target, in_expression, Outer, Phase, Ready, MayElse, InPart, Blocks, Among, chosen, with_part, performed, is_complete, Goes, after_advance, mapped}
 use Rattle.src_parser.proofs.Complete.{Runs, complete}
 use Rattle.src_parser.proofs.PartRead.{right_paren, semicolon}
 use Rattle.src_parser.proofs.StatementsRead.{NoElse, StatementRuns, settled_kind, settled_end, statements_read}
-use Rattle.procs_parser.specs.Calls.{Opened, Argument, Called, InCall, in_argument}
-use Rattle.procs_parser.specs.FileGrammar.{SpellsTrees, Last, Before, NoArgument, Given, operators_of, SpellsBlock}
-use Rattle.procs_parser.specs.FileAdvances.{ParserState, Doing, Calling, Front, front_depth, with_calls, brace_next, bracket_next, word_next, target_of, statement_next, with_call, file_at, program_of, advanced}
+use Rattle.procs_parser.specs.Prelude.{Opened, Argument, Called, InCall, in_argument, SpellsTrees, Last, Before, NoArgument, Given, operators_of, SpellsBlock, ParserState, Doing, Calling, Front, front_depth, with_calls, brace_next, bracket_next, word_next, target_of, statement_next, with_call, file_at, program_of, advanced}
 use Rattle.procs_parser.proofs.BlocksSpelled.{statements_of, block_spelled}
 use Rattle.procs_parser.proofs.CallTokens.{IsCall, ACall}
+use Rattle.src_lexer.specs.declared.tokens.TokenKind.TheVariants as kind
+use Rattle.src_parser.specs.Tokenwise as tokenwise
 
 abbrev pub parsed : Limits → ParserState → List TokenKind → Option File
 parsed = tokenwise.parsed advanced program_of

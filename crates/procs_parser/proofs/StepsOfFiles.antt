@@ -6,26 +6,21 @@ use Rattle.std.proofs.lemmas.List.{append-nil}
 use Rattle.std.proofs.lemmas.Bool.{ltb-true}
 use Rattle.gr_word.specs.declared.variables.Label.TheVariants.{Public, Secret}
 use Rattle.src_lexer.specs.declared.tokens.TokenKind.{TokenKind}
-use Rattle.src_lexer.specs.declared.tokens.TokenKind.TheVariants as kind
 use Rattle.src_tree.specs.declared.trees.Decl.{Decl}
-use Rattle.src_procs.specs.Trees.{Statement, Parameter, Procedure}
-use Rattle.procs_parser.specs.FileGrammar.{AScalar, AnArray, Parameters, NoParameter, SomeParameters, Locals, NoLocal, NoProcedure, proc_word}
-use Rattle.src_parser.specs.Grammar.{Limits, Declares, NoMore}
-use Rattle.src_parser.specs.Headings.{HeadingState, Begun, Declared, heading_advanced}
-use Rattle.src_parser.specs.Statements.{Outer, Phase, Ready, Blocks, Among, performed, is_complete, complete_of}
-use Rattle.src_parser.specs.Tokenwise.{Goes, with_braces}
+use Rattle.src_procs.specs.Prelude.{Statement, Parameter, Procedure}
+use Rattle.procs_parser.specs.Prelude.{AScalar, AnArray, Parameters, NoParameter, SomeParameters, Locals, NoLocal, NoProcedure, proc_word, CallStep, Still, Done, call_advanced, ParserState, Between, Doing, HeadPhase, NoneYet, LocalFresh, Front, Outside, InProcedure, front_depth, with_calls, performs, ending, brace_next, target_of, bracket_next, opening, word_next, statement_next, with_call, starts, parameter_begins, names_next, between, with_heading, advanced}
+use Rattle.src_parser.specs.Prelude.{Limits, Declares, NoMore, HeadingState, Begun, Declared, heading_advanced, Outer, Phase, Ready, Blocks, Among, performed, is_complete, complete_of, Goes, with_braces}
 use Rattle.src_parser.proofs.Braces.{mapped_goes}
 use Rattle.src_parser.proofs.HeadingTokens.{declares_both, IsLabelled, HeadingStands, heading_steps}
 use Rattle.src_parser.proofs.PartTokens.{IsTarget}
 use Rattle.src_parser.proofs.Spelled.{Spelled, NoneLeft, Adds, spelled_at}
 use Rattle.src_parser.proofs.StatementSteps.{statements_step}
 use Rattle.src_parser.proofs.StatementsStanding.{Enclosed, Top, First, Second, Looped, Stands, IsReady, IsPart, StatementsStand, InBlock, one_statement, complete_spelled}
-use Rattle.procs_parser.specs.Calls.{CallStep, Still, Done, call_advanced}
-use Rattle.procs_parser.specs.FileAdvances.{ParserState, Between, Doing, HeadPhase, NoneYet, LocalFresh, Front, Outside, InProcedure, front_depth, with_calls, performs, ending, brace_next, target_of, bracket_next, opening, word_next, statement_next, with_call, starts, parameter_begins, names_next, between, with_heading, advanced}
 use Rattle.procs_parser.proofs.BlocksSpelled.{spelled_block}
 use Rattle.procs_parser.proofs.CallTokens.{IsCall, IsOpened, StepStands, call_steps}
-use Rattle.procs_parser.proofs.StandingFiles as files
 use Rattle.procs_parser.proofs.StandingFiles.{AtTop, InBody, ParametersBefore, NoneBefore, SomeBefore, head_of, Names, IsOpening, IsNoneYet, IsOneMore, IsScalarLabelled, IsScalarTyped, IsArrayTyped, IsArrayTitled, IsArrayClosing, IsBehind, IsAllRead, IsLocalFresh, IsLocalLabelled, IsLocalTyped, IsLocalTitled, one_parameter, one_local, procedure_ends, Standing, InBetween, InHeading, InHead, InStatements, InArguments}
+use Rattle.src_lexer.specs.declared.tokens.TokenKind.TheVariants as kind
+use Rattle.procs_parser.proofs.StandingFiles as files
 
 went : {most : Limits} {tokens : List TokenKind} (x y : ParserState)
     → Goes x ≡ Goes y → Standing most x tokens → Standing most y tokens

@@ -1,12 +1,12 @@
 -- For the proofs and for private clauses only: how a call is read token by token, after its `(`.
 use Rattle.std.specs.Prelude.{ℕ, List, [], ◌∷◌, ◌++◌, Option, Some, None}
 use Rattle.src_lexer.specs.declared.tokens.TokenKind.{TokenKind}
-use Rattle.src_lexer.specs.declared.tokens.TokenKind.TheVariants as kind
 use Rattle.src_tree.specs.Trees.{Tree}
 use Rattle.src_parser.specs.Grammar.{Limits}
 use Rattle.src_parser.specs.Operands.{Reading, At, Wanted, TokenStep, reads, whole, used_of}
 use Rattle.src_parser.specs.Parts.{after_step}
 use Rattle.src_parser.specs.Tokenwise.{Advance, Goes, Wrong}
+use Rattle.src_lexer.specs.declared.tokens.TokenKind.TheVariants as kind
 
 -- before the first argument, in one, or after `)`
 pub data CallPhase : Type 0 where

@@ -3,7 +3,6 @@ use Rattle.std.specs.Prelude.{ℕ, ◌+◌, nat_lt, Bool, true, false, List, [],
 use Rattle.gr_word.specs.declared.variables.Label.{Label}
 use Rattle.gr_word.specs.declared.variables.Label.TheVariants.{Public, Secret}
 use Rattle.src_lexer.specs.declared.tokens.TokenKind.{TokenKind}
-use Rattle.src_lexer.specs.declared.tokens.TokenKind.TheVariants as kind
 use Rattle.src_tree.specs.declared.trees.Decl.{Decl}
 use Rattle.src_procs.specs.Trees.{Statement, SetVariable, SetElement, Choice, Loop, Call, Nothing, Parameter, OfValue, OfVariable, Procedure, File}
 use Rattle.src_procs.specs.Inlined.{is_hidden}
@@ -15,6 +14,7 @@ use Rattle.src_parser.specs.Statements.{Makers, Outer, Phase, InPart, Ready, Blo
 use Rattle.src_parser.specs.Tokenwise.{Advance, Goes, Wrong, mapped, with_braces}
 use Rattle.procs_parser.specs.Calls.{CallState, InCall, Opened, CallStep, Still, Done, call_advanced}
 use Rattle.procs_parser.specs.FileGrammar.{proc_word}
+use Rattle.src_lexer.specs.declared.tokens.TokenKind.TheVariants as kind
 
 -- the statements of files with procedures
 abbrev pub with_calls : Makers Statement

@@ -4,12 +4,12 @@
 use Rattle.std.specs.Prelude.{◌≡◌, ℕ, ◌+◌, ◌<◌, ◌≤◌, List, [], ◌∷◌, ◌++◌, None, false}
 use Rattle.gr_word.specs.declared.variables.Label.{Label}
 use Rattle.src_lexer.specs.declared.tokens.TokenKind.{TokenKind}
-use Rattle.src_lexer.specs.declared.tokens.TokenKind.TheVariants as kind
 use Rattle.src_tree.specs.declared.trees.Decl.{Decl}
 use Rattle.src_tree.specs.Trees.{Tree, Test}
 use Rattle.src_parser.specs.Grammar.{Limits, keyword_of, operators, SpellsTree, Compares, Declares}
 use Rattle.src_procs.specs.Trees.{SetVariable, SetElement, Choice, Loop, Call, Block, Nothing, Then, Parameter, OfValue, OfVariable, Procedure, File}
 use Rattle.src_procs.specs.Inlined.{is_hidden}
+use Rattle.src_lexer.specs.declared.tokens.TokenKind.TheVariants as kind
 
 -- no name begins with `__`
 abbrev pub HasNoHiddenName : List TokenKind → Type 0

@@ -3,9 +3,9 @@
 use Rattle.std.specs.Prelude.{List}
 use Rattle.src_lexer.specs.declared.tokens.Token.{Token}
 use Rattle.src_parser.specs.declared.errors.ParseError.{ParseError}
-use Rattle.src_parser.specs.declared.errors.ParseError.TheVariants as error
 use Rattle.src_parser.specs.Tokenwise.{Stray, Deeper, Cut}
 use Rattle.procs_parser.specs.FileGrammar.{SpellsFile}
+use Rattle.src_parser.specs.declared.errors.ParseError.TheVariants as error
 
 abbrev pub ExplainsFile : ParseError → List Token → Type 0
 ExplainsFile (error.Unexpected at) tokens = Stray SpellsFile tokens at

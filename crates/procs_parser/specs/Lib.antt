@@ -4,3 +4,4 @@ pub mod Calls
 pub mod FileAdvances
 pub mod StatesSeen
 pub mod FileText
+pub mod Prelude

@@ -1,5 +1,11 @@
 -- For private clauses only: the parser's own types as the proofs see them.
 use Rattle.std.specs.Prelude.{map, Option, Some, None}
+use Rattle.src_parser.specs.Seen.{among, heading_of, outers_of, phase_of, reading_of}
+use Rattle.src_parser.specs.Tokenwise.{Advance}
+use Rattle.src_procs.specs.declared.trees.PStmt.{PStmt}
+use Rattle.src_procs.specs.Seen.{statement_of, trees_of, parameter_of, procedure_of}
+use Rattle.procs_parser.specs.Calls.{CallPhase, Opened, Argument, Called, CallState, InCall, CallStep, Still, Done}
+use Rattle.procs_parser.specs.FileAdvances.{HeadPhase, Opening, NoneYet, OneMore, ScalarLabelled, ScalarTyped, ArrayTyped, ArrayTitled, ArrayClosing, Behind, AllRead, LocalFresh, LocalLabelled, LocalTyped, LocalTitled, Front, Outside, InProcedure, ParserState, Between, Declaring, Naming, Doing, Calling}
 use Rattle.procs_parser.specs.declared.states.CallPhase as call_phases
 use Rattle.procs_parser.specs.declared.states.CallPhase.TheVariants as call_phase
 use Rattle.procs_parser.specs.declared.states.CallAdvance as call_advances
@@ -18,13 +24,7 @@ use Rattle.procs_parser.specs.declared.states.FileAdvance as advances
 use Rattle.procs_parser.specs.declared.states.FileAdvance.TheVariants as advance
 use Rattle.procs_parser.specs.declared.states.Head as heads
 use Rattle.src_parser.specs.declared.states.Blocks as blocks
-use Rattle.src_parser.specs.Seen.{among, heading_of, outers_of, phase_of, reading_of}
 use Rattle.src_parser.specs.Tokenwise as tokenwise
-use Rattle.src_parser.specs.Tokenwise.{Advance}
-use Rattle.src_procs.specs.declared.trees.PStmt.{PStmt}
-use Rattle.src_procs.specs.Seen.{statement_of, trees_of, parameter_of, procedure_of}
-use Rattle.procs_parser.specs.Calls.{CallPhase, Opened, Argument, Called, CallState, InCall, CallStep, Still, Done}
-use Rattle.procs_parser.specs.FileAdvances.{HeadPhase, Opening, NoneYet, OneMore, ScalarLabelled, ScalarTyped, ArrayTyped, ArrayTitled, ArrayClosing, Behind, AllRead, LocalFresh, LocalLabelled, LocalTyped, LocalTitled, Front, Outside, InProcedure, ParserState, Between, Declaring, Naming, Doing, Calling}
 
 abbrev pub call_phase_of : call_phases.CallPhase → CallPhase
 call_phase_of call_phase.Opened = Opened

@@ -1,6 +1,5 @@
 ghost use Rattle.std.specs.Prelude.{◌≡◌, IfOk};
-ghost use Rattle.src_parser.specs.Grammar.{limits};
-ghost use Rattle.src_parser.specs.Seen.{heading_of};
+ghost use Rattle.src_parser.specs.Prelude.{limits, heading_of};
 ghost use Rattle.procs_parser.specs.FileAdvances.{between, starts, advanced, Declaring};
 ghost use Rattle.procs_parser.specs.StatesSeen.{advance_of, state_of, front_of};
 

@@ -1,9 +1,7 @@
 ghost use Rattle.std.specs.Prelude.{◌≡◌, ◌++◌, ◌∷◌, [], IfOk, None, map};
-ghost use Rattle.src_parser.specs.Grammar.{limits};
-ghost use Rattle.src_parser.specs.Tokenwise.{Goes};
+ghost use Rattle.src_parser.specs.Prelude.{limits, Goes, declared};
 ghost use Rattle.procs_parser.specs.FileAdvances.{names_next, parameter_begins, Behind, ScalarTyped, ArrayTyped, ArrayTitled, NoneYet, LocalFresh, LocalTyped};
-ghost use Rattle.src_procs.specs.Seen.{parameter_of, procedure_of};
-ghost use Rattle.src_parser.specs.Headings.{declared};
+ghost use Rattle.src_procs.specs.Prelude.{parameter_of, procedure_of};
 ghost use Rattle.procs_parser.specs.StatesSeen.{advance_of, state_of, named, head_phase_of};
 
 use crate::declarations::start_statements;

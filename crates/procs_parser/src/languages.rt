@@ -1,6 +1,6 @@
 ghost use Rattle.std.specs.Prelude.{◌≡◌, map};
-ghost use Rattle.src_tree.specs.Trees.{expr_tree, test_of};
-ghost use Rattle.src_procs.specs.Seen.{statement_of};
+ghost use Rattle.src_tree.specs.Prelude.{expr_tree, test_of};
+ghost use Rattle.src_procs.specs.Prelude.{statement_of};
 ghost use Rattle.procs_parser.specs.FileAdvances.{with_calls};
 
 use gr_word::Name;

@@ -1,11 +1,10 @@
 ghost use Rattle.std.specs.Prelude.{◌≡◌, ◌≢◌, List};
 ghost use Rattle.src_lexer.specs.declared.tokens.Token.{Token};
 ghost use Rattle.src_lexer.specs.declared.tokens.TokenKind.{TokenKind};
-ghost use Rattle.src_parser.specs.Grammar.{limits};
-ghost use Rattle.src_parser.specs.Refusals.{token_kinds};
+ghost use Rattle.src_parser.specs.Prelude.{limits, token_kinds};
 ghost use Rattle.src_parser.specs.declared.errors.ParseError.{ParseError};
 ghost use Rattle.src_parser.specs.declared.errors.ParseError.TheVariants.{Memory};
-ghost use Rattle.src_procs.specs.Trees.{File};
+ghost use Rattle.src_procs.specs.Prelude.{File};
 ghost use Rattle.procs_parser.specs.FileGrammar.{SpellsFile};
 ghost use Rattle.procs_parser.specs.FileRefusals.{ExplainsFile};
 

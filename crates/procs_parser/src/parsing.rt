@@ -1,15 +1,11 @@
 ghost use Rattle.std.specs.Prelude.{◌≡◌, None, ◌^◌, ◌<◌, ◌≤◌, IfErr, IfOk, OnOk, Some, if◌then◌else◌, length, map, option_map};
-ghost use Rattle.src_parser.specs.Grammar.{limits};
-ghost use Rattle.src_parser.specs.Readers.{ReadsTo, Stops};
-ghost use Rattle.src_parser.specs.Refusals.{token_kinds};
-ghost use Rattle.src_parser.specs.Tokenwise.{Wrong};
+ghost use Rattle.src_parser.specs.Prelude.{limits, ReadsTo, token_kinds, Wrong, among, phase_of};
+ghost use Rattle.src_parser.specs.Readers.{Stops};
 ghost use Rattle.procs_parser.specs.FileGrammar.{SpellsFile};
 ghost use Rattle.procs_parser.specs.FileRefusals.{ExplainsFile};
 ghost use Rattle.procs_parser.specs.FileText.{ExplainsFileText, SpellsFileText};
 ghost use Rattle.procs_parser.specs.FileAdvances.{advanced, taken, is_hidden_token, file_at, program_of, Doing};
-ghost use Rattle.src_parser.specs.Seen.{among, phase_of};
-ghost use Rattle.src_procs.specs.Promise.{ArePlain};
-ghost use Rattle.src_procs.specs.Seen.{file_of, statement_of};
+ghost use Rattle.src_procs.specs.Prelude.{ArePlain, file_of, statement_of};
 ghost use Rattle.procs_parser.specs.StatesSeen.{advance_of, front_of, start_of, state_of};
 
 use crate::declarations::{begin_declaration, declare};

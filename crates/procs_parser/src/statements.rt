@@ -1,8 +1,6 @@
 ghost use Rattle.std.specs.Prelude.{◌≡◌, [], IfOk, Some, bytes_eq, map};
-ghost use Rattle.src_parser.specs.Grammar.{limits};
-ghost use Rattle.src_parser.specs.Seen.{among, outers_of, phase_of};
-ghost use Rattle.src_parser.specs.Statements.{complete_of, Among, Ready};
-ghost use Rattle.src_procs.specs.Seen.{statement_of};
+ghost use Rattle.src_parser.specs.Prelude.{limits, among, outers_of, phase_of, complete_of, Among, Ready};
+ghost use Rattle.src_procs.specs.Prelude.{statement_of};
 ghost use Rattle.procs_parser.specs.FileAdvances.{advanced, ending, front_depth, opening, performs, target_of, with_calls, Doing};
 ghost use Rattle.procs_parser.specs.FileGrammar.{proc_word};
 ghost use Rattle.procs_parser.specs.StatesSeen.{advance_of, doing, front_of, opened};

@@ -1,5 +1,5 @@
 ghost use Rattle.std.specs.Prelude.{◌≡◌, ◌≢◌, ◌≤◌, ◌+◌, ◌↔◌, IfOk, IsSome, None, vec_len};
-ghost use Rattle.gr_base.specs.Calls.{one_more};
+ghost use Rattle.gr_base.specs.Prelude.{one_more};
 
 use crate::failure::Failure;
 use crate::replacing::replace;

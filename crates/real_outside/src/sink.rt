@@ -1,7 +1,6 @@
 ghost use Rattle.std.specs.Prelude.{◌≡◌, ◌≤◌, ◌↔◌, ◌-◌, ◌+◌, ◌^◌, [], ◌++◌, None, Some, IfOk, IsSome, MatchOption, OnErr, OnOk, drop, length, min, take, vec_capacity, vec_len};
 ghost use Rattle.std.specs.Io.KnownBytes.{Appends, Keeps};
-ghost use Rattle.gr_base.specs.Calls.{one_more};
-ghost use Rattle.gr_base.specs.Counts.{Rose};
+ghost use Rattle.gr_base.specs.Prelude.{one_more, Rose};
 ghost use Rattle.real_outside.specs.Gathering.{Takes, TakesLess, gathered, most_waiting};
 
 use crate::failure::Cause;

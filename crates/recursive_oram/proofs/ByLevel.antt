@@ -2,11 +2,8 @@
 use Rattle.std.proofs.Common.{◌≡◌, ℕ, suc, ◌+◌, List, [], ◌∷◌, ◌++◌, length, map, get_or, refl, sym, ap, ap₂, ◌∙◌, arith, length-append}
 use Rattle.std.proofs.Math.ListN.{get_or-append}
 use Rattle.std.proofs.Math.Seq.{get_or-append_seam}
-use Rattle.path_oram.specs.Words.{leaf_of}
-use Rattle.path_oram.specs.WordsRead.{read_word_number}
-use Rattle.recursive_oram.specs.ByLevel.{ShowsByLevel, block_on}
-use Rattle.recursive_oram.specs.Levels.{block_above}
-use Rattle.recursive_oram.specs.RecLeaves.{Size, leaves_read, number_among_all, words_made}
+use Rattle.path_oram.specs.Prelude.{leaf_of, read_word_number}
+use Rattle.recursive_oram.specs.Prelude.{ShowsByLevel, block_on, block_above, Size, leaves_read, number_among_all, words_made}
 
 read-count : (made levels start : ℕ) (words : List ℕ) (sizes : List Size) (earlier : List ℕ) (block : ℕ)
     → length (leaves_read made levels start words sizes earlier block) ≡ length sizes

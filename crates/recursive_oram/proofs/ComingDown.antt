@@ -2,16 +2,10 @@
 use Rattle.std.proofs.Common.{nat_abs, ◌≡◌, ℕ, suc, ◌^◌, ◌<◌, ℤ, pos, List, [], ◌∷◌, ◌++◌, length, get_or, refl, sym, ap, ◌∙◌}
 use Rattle.rand_core.specs.Stream.{Stream, next_u64}
 use Rattle.banks.specs.declared.bank.Leaves.{Leaves}
-use Rattle.banks.specs.Banks.{listed_leaves}
-use Rattle.path_oram.specs.Coming.{by-word}
-use Rattle.path_oram.specs.Moves.{MovesTo}
-use Rattle.path_oram.specs.Trees.{BlockTree, IsTree}
-use Rattle.path_oram.specs.Words.{leaf_of, word_at}
+use Rattle.banks.specs.Prelude.{listed_leaves}
+use Rattle.path_oram.specs.Prelude.{by-word, MovesTo, BlockTree, IsTree, leaf_of, word_at}
 use Rattle.path_oram.proofs.Ahead.{words_left-one}
-use Rattle.recursive_oram.specs.Levels.{block_above, leaves_now, shown_ahead}
-use Rattle.recursive_oram.specs.Descending.{IsDescent}
-use Rattle.recursive_oram.specs.PositionMaps.{IsPositionMap, kept_leaf}
-use Rattle.recursive_oram.specs.RecursiveOrams.{LeadsEach, levels_of}
+use Rattle.recursive_oram.specs.Prelude.{block_above, leaves_now, shown_ahead, IsDescent, IsPositionMap, kept_leaf, LeadsEach, levels_of}
 use Rattle.recursive_oram.proofs.Kept.{map-replaced, with_kept}
 use Rattle.recursive_oram.proofs.Led.{shown-step}
 

@@ -2,11 +2,9 @@
 -- blocks.
 use Rattle.std.proofs.Common.{ℕ, zero, suc, ◌<◌, ◌≤◌, List, [], ◌∷◌, length, map, refl, sym, ap, ◌∙◌, subst, ⊎_elim, arith}
 use Rattle.std.proofs.lemmas.Bool.{cases_lt}
-use Rattle.path_oram.specs.Trees.{BlockTree, IsTree}
-use Rattle.path_oram.specs.Whole.{IsHeightFor}
+use Rattle.path_oram.specs.Prelude.{BlockTree, IsTree, IsHeightFor}
 use Rattle.path_oram.proofs.Existing.{some_height}
-use Rattle.recursive_oram.specs.PositionMaps.{IsPositionMap, count_above}
-use Rattle.recursive_oram.specs.RecLeaves.{AreSizes, Size, size_of}
+use Rattle.recursive_oram.specs.Prelude.{IsPositionMap, count_above, AreSizes, Size, size_of}
 
 pub tall : (tree : BlockTree) → IsTree tree → IsHeightFor (length tree.contents) tree.places.height
 tall tree whole = subst (λ n. IsHeightFor n tree.places.height) (sym whole.count) whole.whole.height

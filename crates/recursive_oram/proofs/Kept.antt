@@ -4,10 +4,8 @@ use Rattle.std.specs.List.{All}
 use Rattle.std.specs.Prelude.{slice_get}
 use Rattle.std.proofs.lemmas.Bool.{cases_eq}
 use Rattle.std.proofs.lemmas.List.Elements.{All-set}
-use Rattle.path_oram.specs.Trees.{BlockTree, IsTree}
-use Rattle.path_oram.specs.Moves.{MovesTo}
-use Rattle.recursive_oram.specs.Levels.{block_above, word_above}
-use Rattle.recursive_oram.specs.PositionMaps.{IsPositionMap, KeepsLeaves, count_above, kept_leaf}
+use Rattle.path_oram.specs.Prelude.{BlockTree, IsTree, MovesTo}
+use Rattle.recursive_oram.specs.Prelude.{block_above, word_above, IsPositionMap, KeepsLeaves, count_above, kept_leaf}
 
 -- a block of the level below has a block and a word of this one
 pub block_exists : (n block : ℕ) → block < n → block_above block < count_above n

@@ -3,11 +3,9 @@ use Rattle.std.proofs.Common.{◌≡◌, ℕ, suc, ◌+◌, ◌-◌, ◌<◌, Li
 use Rattle.std.proofs.lemmas.List.{length-map}
 use Rattle.rand_core.specs.Stream.{Stream}
 use Rattle.banks.specs.declared.bank.Leaves.{Leaves}
-use Rattle.banks.specs.Banks.{listed_leaves}
-use Rattle.path_oram.specs.Trees.{BlockTree}
-use Rattle.path_oram.specs.Words.{leaf_of, word_at, words_left}
-use Rattle.recursive_oram.specs.Levels.{Level, block_above, leaves_now, tree_level, levels_after, shown_ahead}
-use Rattle.recursive_oram.specs.RecursiveOrams.{LeadsEach, levels_of}
+use Rattle.banks.specs.Prelude.{listed_leaves}
+use Rattle.path_oram.specs.Prelude.{BlockTree, leaf_of, word_at, words_left}
+use Rattle.recursive_oram.specs.Prelude.{Level, block_above, leaves_now, tree_level, levels_after, shown_ahead, LeadsEach, levels_of}
 
 -- an item in the middle of a list
 set-seam : (front back : List ℕ) (old new : ℕ)

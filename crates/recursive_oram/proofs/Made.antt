@@ -4,15 +4,10 @@ use Rattle.std.proofs.lemmas.Bool.{cases_lt}
 use Rattle.std.proofs.lemmas.List.{append-nil, length-map, map-append}
 use Rattle.std.proofs.Math.Nat.{pow-suc}
 use Rattle.rand_core.specs.Stream.{Stream}
-use Rattle.path_oram.specs.Places.{Places, first_places}
-use Rattle.path_oram.specs.Trees.{BlockTree, IsTree}
-use Rattle.path_oram.specs.Words.{first_words, leaf_of, words_left}
+use Rattle.path_oram.specs.Prelude.{Places, first_places, BlockTree, IsTree, first_words, leaf_of, words_left}
 use Rattle.path_oram.proofs.Ahead.{length-first_words, words_left-more}
-use Rattle.recursive_oram.specs.Levels.{tree_level, shown_ahead}
-use Rattle.recursive_oram.specs.PositionMaps.{IsPositionMap, KeepsLeaves, count_above}
-use Rattle.recursive_oram.specs.RecLeaves.{Size, rec_leaves, size_of, words_made}
+use Rattle.recursive_oram.specs.Prelude.{tree_level, shown_ahead, IsPositionMap, KeepsLeaves, count_above, Size, rec_leaves, size_of, words_made, IsMaking}
 use Rattle.recursive_oram.proofs.Counted.{map-sizes}
-use Rattle.recursive_oram.specs.Making.{IsMaking}
 use Rattle.recursive_oram.proofs.Read.{made-more, start-shown}
 
 pub making-start : (words : Stream) (tree : BlockTree) (last : List ℕ) (left : Stream) (count : ℕ)

@@ -1,12 +1,10 @@
 -- Four leaves a block.
 use Rattle.std.proofs.Common.{◌≡◌, ℕ, ◌+◌, ◌*◌, ◌-◌, ◌/◌, ◌<◌, ◌≤◌, ℤ, pos, List, [], ◌++◌, length, take, replicate, map, get_or, ap, ◌∙◌, arith}
 use Rattle.std.proofs.lemmas.List.{get_or_default, length-map, get_or-map, take_all}
-use Rattle.banks.specs.Blocks.{cut, filled_up, in_blocks}
+use Rattle.banks.specs.Prelude.{cut, filled_up, in_blocks}
 use Rattle.banks.proofs.Blocks.{block-cut, get_or-filled_up, length-block_of_words, length-cut, length-filled_up, word-cut}
-use Rattle.path_oram.specs.Trees.{BlockTree}
-use Rattle.path_oram.specs.Whole.{IsHeightFor}
-use Rattle.recursive_oram.specs.Levels.{block_above, word_above}
-use Rattle.recursive_oram.specs.PositionMaps.{KeepsLeaves, count_above, kept_leaf}
+use Rattle.path_oram.specs.Prelude.{BlockTree, IsHeightFor}
+use Rattle.recursive_oram.specs.Prelude.{block_above, word_above, KeepsLeaves, count_above, kept_leaf}
 use Rattle.recursive_oram.proofs.Kept.{block_exists, word_exists}
 
 -- this many leaves as words, in whole blocks

@@ -6,16 +6,10 @@ use Rattle.std.proofs.lemmas.List.{length-map}
 use Rattle.std.proofs.Math.Nat.{mul-le-mul_right, suc-mul}
 use Rattle.rand_core.specs.Stream.{Stream}
 use Rattle.banks.specs.declared.bank.Leaves.{Leaves}
-use Rattle.banks.specs.Banks.{listed_leaves}
-use Rattle.path_oram.specs.Places.{Places}
-use Rattle.path_oram.specs.Trees.{BlockTree}
-use Rattle.path_oram.specs.Words.{first_words, leaf_of, word_at, words_left}
-use Rattle.path_oram.specs.WordsRead.{read_word_number}
+use Rattle.banks.specs.Prelude.{listed_leaves}
+use Rattle.path_oram.specs.Prelude.{Places, BlockTree, first_words, leaf_of, word_at, words_left, read_word_number}
 use Rattle.path_oram.proofs.Ahead.{HasLeaves, first_words-at, has_first, has_next, number_bound, word_behind, words_left-more}
-use Rattle.recursive_oram.specs.Levels.{Level, block_above, leaves_now, tree_level, levels_after, shown_ahead}
-use Rattle.recursive_oram.specs.RecLeaves.{AreSizes, Size, leaves_read, leaves_read_after, rec_leaves, size_of, number_among_all, words_made}
-use Rattle.recursive_oram.specs.FirstTrees.{AreFirst}
-use Rattle.recursive_oram.specs.PositionMaps.{count_above}
+use Rattle.recursive_oram.specs.Prelude.{Level, block_above, leaves_now, tree_level, levels_after, shown_ahead, AreSizes, Size, leaves_read, leaves_read_after, rec_leaves, size_of, number_among_all, words_made, AreFirst, count_above}
 use Rattle.recursive_oram.proofs.Kept.{block_exists}
 
 -- a block has a block on each level

@@ -7,3 +7,4 @@ pub mod FirstTrees
 pub mod Making
 pub mod ByLevel
 pub mod Showing
+pub mod Prelude

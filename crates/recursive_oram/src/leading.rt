@@ -1,6 +1,6 @@
 ghost use Rattle.std.specs.Prelude.{◌≡◌, ℕ, ◌<◌, ◌≤◌, [], ◌∷◌, ◌++◌, List, length};
-ghost use Rattle.banks.specs.Banks.{listed_leaves};
-ghost use Rattle.path_oram.specs.Trees.{IsTree};
+ghost use Rattle.banks.specs.Prelude.{listed_leaves};
+ghost use Rattle.path_oram.specs.Prelude.{IsTree};
 ghost use Rattle.recursive_oram.specs.Descending.{IsDescent};
 ghost use Rattle.recursive_oram.specs.PositionMaps.{IsPositionMap};
 

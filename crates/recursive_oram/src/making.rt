@@ -1,9 +1,7 @@
 ghost use Rattle.std.specs.Prelude.{◌≡◌, [], ◌+◌, ◌*◌, ◌<◌, ◌≤◌, ◌^◌, pos, IfOk, length, map};
-ghost use Rattle.banks.specs.Blocks.{filled_up};
+ghost use Rattle.banks.specs.Prelude.{filled_up};
 ghost use Rattle.rand_core.specs.Stream.{Stream};
-ghost use Rattle.path_oram.specs.Places.{first_places};
-ghost use Rattle.path_oram.specs.Trees.{IsTree};
-ghost use Rattle.path_oram.specs.Words.{first_words, leaf_of, words_left};
+ghost use Rattle.path_oram.specs.Prelude.{first_places, IsTree, first_words, leaf_of, words_left};
 ghost use Rattle.recursive_oram.specs.Making.{IsMaking};
 ghost use Rattle.recursive_oram.specs.PositionMaps.{KeepsLeaves, count_above};
 

@@ -1,11 +1,8 @@
 ghost use Rattle.std.specs.Prelude.{◌≡◌, ℕ, ◌+◌, ◌*◌, ◌/◌, ◌%◌, ◌<◌, ◌≤◌, ◌∷◌, pos, List, Some, IfOk, length, map, slice_get, slice_index, slice_set};
 ghost use Rattle.std.specs.List.{All};
-ghost use Rattle.lt_isa.specs.Limits.{most_blocks};
-ghost use Rattle.lt_isa.specs.Machine.{word_in};
-ghost use Rattle.banks.specs.Banks.{AreLeaves, block_numbered, listed_leaves};
-ghost use Rattle.banks.specs.Blocks.{in_blocks};
-ghost use Rattle.path_oram.specs.Trees.{IsTree, BlockTree};
-ghost use Rattle.path_oram.specs.Words.{first_words, words_left};
+ghost use Rattle.lt_isa.specs.Prelude.{most_blocks, word_in};
+ghost use Rattle.banks.specs.Prelude.{AreLeaves, block_numbered, listed_leaves, in_blocks};
+ghost use Rattle.path_oram.specs.Prelude.{IsTree, BlockTree, first_words, words_left};
 ghost use Rattle.recursive_oram.specs.FirstTrees.{AreFirst};
 ghost use Rattle.recursive_oram.specs.Levels.{leaves_now, shown_ahead};
 ghost use Rattle.recursive_oram.specs.PositionMaps.{IsPositionMap, kept_leaf};

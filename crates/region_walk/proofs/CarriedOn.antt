@@ -1,38 +1,20 @@
 -- The walk that only carries a state: over one place, and over a region.
-use Rattle.std.proofs.Common.{◌≡◌, ℕ, ◌+◌, ◌-◌, ◌<◌, ◌≤◌, ℤ, true, false, List, [], length, slice_get, Some, sym, ap, ◌∙◌, subst, arith}
+use Rattle.std.proofs.Common.{◌≡◌, ℕ, ◌+◌, ◌-◌, ◌<◌, ◌≤◌, ℤ, true, List, [], length, slice_get, Some, sym, ap, ◌∙◌, subst, arith}
 use Rattle.lt_isa.specs.declared.symbols.Note.{Note}
 use Rattle.lt_isa.specs.declared.instructions.Instr.{Instr}
-use Rattle.lt_isa.specs.declared.instructions.Instr.TheVariants.{Halt, Jmp, Br}
-use Rattle.lt_isa.specs.Object.{Parts}
+use Rattle.lt_isa.specs.declared.instructions.Instr.TheVariants.{Br}
+use Rattle.lt_isa.specs.Prelude.{Parts}
 use Rattle.symbolic_values.specs.declared.nodes.Node.{Node}
-use Rattle.symbolic_values.specs.Tables.{KeepsTrees}
-use Rattle.trace_patterns.specs.declared.reasons.Reason.{Reason}
-use Rattle.trace_patterns.specs.Known.{Known}
-use Rattle.trace_patterns.specs.SymStates.{SymState, at_entry, common}
-use Rattle.trace_patterns.specs.Shape.{BadShape, Arms, shape}
-use Rattle.trace_patterns.specs.Carried.{only_goes_on, held_behind}
-use Rattle.trace_patterns.specs.Carries.{CarriesTo, Arrived, Along, Through, CarriesOver, ByBoth, JoinsIn, without_notes}
+use Rattle.symbolic_values.specs.Prelude.{KeepsTrees}
+use Rattle.trace_patterns.specs.Prelude.{Known, SymState, at_entry, common, Arms, shape, only_goes_on, held_behind, CarriesTo, Arrived, Along, Through, CarriesOver, ByBoth, JoinsIn, without_notes}
 use Rattle.trace_patterns.proofs.Carries.{instr-once, br_goes_not, offset_once, arms-once, over-once}
 use Rattle.region_walk.specs.declared.carries.Led.{Led}
 use Rattle.region_walk.specs.declared.carries.Led.TheVariants.{Reaches, Unshaped, Memory}
 use Rattle.region_walk.specs.declared.states.RegionState.{RegionState}
-use Rattle.region_walk.specs.States.{sym_of, known_of, IsCommon}
-use Rattle.region_walk.specs.NextSteps.{BranchStands}
-use Rattle.region_walk.specs.Carrying.{HoldsBehind, StateIsReady, LeadsOn, IsLedOn, IsLedOver, LeadsOver, IsCarriedTo}
+use Rattle.region_walk.specs.Prelude.{sym_of, known_of, IsCommon, BranchStands, HoldsBehind, StateIsReady, LeadsOn, IsLedOn, IsLedOver, LeadsOver, IsCarriedTo}
 use Rattle.region_walk.proofs.TableGrowth.{keeps-then, keeps-longer}
 use Rattle.region_walk.proofs.Numbered.{state_fits-more, known_after-sym}
 use Rattle.region_walk.proofs.CommonStates.{state_fits-common}
-
-pub leads-own : (o : Parts) (depth end p : ℕ) (nodes : List Node) (s : RegionState) → StateIsReady p nodes s → p ≤ end
-    → LeadsOn o depth end p nodes s p nodes s
-leads-own o depth end p nodes s ready le = record {
-  onward = omega arith;
-  within = le;
-  ready = ready;
-  keeps = λ i t h. h;
-  carries = λ t h. h;
-  alone = λ t h. h;
-}
 
 pub leads-then : (o : Parts) (depth end p q r : ℕ) (a b c : List Node) (s t u : RegionState)
     → LeadsOn o depth end p a s q b t → LeadsOn o depth end q b t r c u → LeadsOn o depth end p a s r c u
@@ -71,23 +53,6 @@ along-leads o depth end p old new s behind i ready lt here goes h = record {
   alone = λ t c. subst (λ (x : SymState). CarriesTo o depth end (p + 1) x t) (sym h.is)
       (along-alone o depth end p (sym_of old s) t i c lt here goes);
 }
-
--- no state is carried over a halt or a jump
-pub halt-nowhere : (o : Parts) (depth end p : ℕ) (s t : SymState) (i : Instr) → p < end → slice_get o.code p ≡ Some i
-    → i ≡ Halt → CarriesTo o depth end p s t → ⊥
-halt-nowhere o depth end p s t i lt here is (Arrived d e p' s' at) = absurd (omega arith)
-halt-nowhere o depth end p s t i lt here is (Along d e p' s' j t' before at only rest) =
-    let f : false ≡ true = ap only_goes_on (sym is ∙ instr-once o p i j here at) ∙ only in absurd cc
-halt-nowhere o depth end p s t i lt here is (Through d e p' s' cmp ra rb offset join u t' before at over rest) =
-    let f : Halt ≡ Br cmp ra rb offset = sym is ∙ instr-once o p i (Br cmp ra rb offset) here at in absurd cc
-
-pub jump-nowhere : (o : Parts) (depth end p : ℕ) (s t : SymState) (i : Instr) (back : ℤ) → p < end
-    → slice_get o.code p ≡ Some i → i ≡ Jmp back → CarriesTo o depth end p s t → ⊥
-jump-nowhere o depth end p s t i back lt here is (Arrived d e p' s' at) = absurd (omega arith)
-jump-nowhere o depth end p s t i back lt here is (Along d e p' s' j t' before at only rest) =
-    let f : false ≡ true = ap only_goes_on (sym is ∙ instr-once o p i j here at) ∙ only in absurd cc
-jump-nowhere o depth end p s t i back lt here is (Through d e p' s' cmp ra rb offset join u t' before at over rest) =
-    let f : Jmp back ≡ Br cmp ra rb offset = sym is ∙ instr-once o p i (Br cmp ra rb offset) here at in absurd cc
 
 -- a state is carried over a branch and its region, and then on
 record IsThrough (o : Parts) (depth end p : ℕ) (offset : ℤ) (s t : SymState) : Type 0 where
@@ -142,27 +107,11 @@ branch-leads o depth end p offset old new s behind Memory lt b h = tt
 pub bare-same : (o : Parts) → o.notes ≡ [] → without_notes o ≡ o
 bare-same o bare = ap (λ (n : List Note). let r : Parts = record o { notes = n } in r) (sym bare)
 
--- no state is carried over a region without a shape
-pub unshaped-over : (o : Parts) (depth end p : ℕ) (offset : ℤ) (s : SymState) (place : ℕ) (reason : Reason)
-    → o.notes ≡ [] → shape o depth end p offset ≡ BadShape place reason → (join : ℕ) (t : SymState)
-    → CarriesOver o depth end p offset s join t → ⊥
-unshaped-over o depth end p offset s place reason bare bad join t
-    (ByBoth d e p' f s' second j left right arms first behind) =
-    let g : BadShape place reason ≡ Arms second join =
-    sym bad ∙ ap (λ (a : Parts). shape a depth end p offset) (sym (bare-same o bare)) ∙ arms in
-    absurd cc
-
 -- a state is carried over a region with a shape
 module _ (o : Parts) (depth end p : ℕ) (offset : ℤ) (s : SymState) (second join : ℕ) (bare : o.notes ≡ [])
     (arms : shape o depth end p offset ≡ Arms second join) where
   bare_arms : shape (without_notes o) depth end p offset ≡ Arms second join
   bare_arms = ap (λ (a : Parts). shape a depth end p offset) (bare-same o bare) ∙ arms
-
-  pub first-unshaped : ((t : SymState) → CarriesTo o (depth + 1) (second - 1) (p + 1) s t → ⊥) → (at : ℕ) (t : SymState)
-      → CarriesOver o depth end p offset s at t → ⊥
-  first-unshaped none at t (ByBoth d e p' f s' second' j left right arms' first behind) =
-      let same = arms-once second' at second join (sym arms' ∙ bare_arms) in
-      none left (subst (λ (q : ℕ). CarriesTo o (depth + 1) (q - 1) (p + 1) s left) same.0 first)
 
   pub second-unshaped : ((t : SymState) → CarriesTo o (depth + 1) join second s t → ⊥) → (at : ℕ) (t : SymState)
       → CarriesOver o depth end p offset s at t → ⊥

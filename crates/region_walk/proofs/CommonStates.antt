@@ -2,19 +2,17 @@
 use Rattle.std.proofs.Common.{◌≡◌, ℕ, List, length, Option, Some, None, refl, sym, ap, ◌∙◌, subst, ⊎_elim}
 use Rattle.std.proofs.lemmas.List.{ext_get_or, length-map}
 use Rattle.symbolic_values.specs.declared.nodes.Node.{Node}
-use Rattle.symbolic_values.specs.Trees.{Value, tree_of}
-use Rattle.symbolic_values.specs.Tables.{IsTable}
-use Rattle.trace_patterns.specs.SymStates as trees
-use Rattle.trace_patterns.specs.SymStates.{SymSlot, AnySlot, RamSlot, EramSlot, OramSlot, tree_held, slot_held, common_tree, common_slot, common}
+use Rattle.symbolic_values.specs.Prelude.{Value, tree_of, IsTable}
+use Rattle.trace_patterns.specs.Prelude.{SymSlot, AnySlot, RamSlot, EramSlot, OramSlot, tree_held, slot_held, common_tree, common_slot, common}
 use Rattle.trace_patterns.proofs.SymStateLaws.{IsSized, own_tree, own_slot, tree-common, slot-common, sized-common, common_tree-cases, common_slot-cases}
 use Rattle.region_walk.specs.declared.states.Origin.{Origin}
 use Rattle.region_walk.specs.declared.states.Origin.TheVariants.{Entry, Loaded}
 use Rattle.region_walk.specs.declared.states.Slot.{Slot}
 use Rattle.region_walk.specs.declared.states.Slot.TheVariants.{Any, Ram, Eram, Oram}
 use Rattle.region_walk.specs.declared.states.RegionState.{RegionState}
-use Rattle.region_walk.specs.Slots.{known_tree, origin_of, slot_of, NumberFits, NumberedSlotFits, IsCommonOf}
-use Rattle.region_walk.specs.States.{number_in, slot_at, sym_of, StateFits, IsCommon}
+use Rattle.region_walk.specs.Prelude.{known_tree, origin_of, slot_of, NumberFits, NumberedSlotFits, IsCommonOf, number_in, slot_at, sym_of, StateFits, IsCommon}
 use Rattle.region_walk.proofs.Numbered.{tree_held-sym, slot_held-sym, state-same}
+use Rattle.trace_patterns.specs.SymStates as trees
 
 -- what is known in common has the numbers of one of the states
 common-fits : {X : Type 0} (Fits : X → Type 0) (nothing x y z : X) → Fits nothing → Fits x → IsCommonOf nothing x y z

@@ -1,18 +1,12 @@
 -- A region of public code that is crossed or blocked, over numbers and over trees.
 use Rattle.std.proofs.Common.{◌≡◌, ℕ, ◌-◌, ◌<◌, ℤ, List, length, sym, ap, ◌∙◌, subst, arith}
-use Rattle.lt_isa.specs.Object.{Parts}
+use Rattle.lt_isa.specs.Prelude.{Parts}
 use Rattle.symbolic_values.specs.declared.nodes.Node.{Node}
 use Rattle.trace_patterns.specs.declared.reasons.Reason.{Reason}
-use Rattle.trace_patterns.specs.Known.{Known}
-use Rattle.trace_patterns.specs.Events.{over_trees}
-use Rattle.trace_patterns.specs.SymStates.{SymState, at_entry}
-use Rattle.trace_patterns.specs.Walk.{BlockedAt}
+use Rattle.trace_patterns.specs.Prelude.{Known, over_trees, SymState, at_entry, BlockedAt}
 use Rattle.region_walk.specs.declared.states.RegionState.{RegionState}
 use Rattle.region_walk.specs.declared.walks.Way.{Way}
-use Rattle.region_walk.specs.FuelWalk.{Crossing, Crosses, Blocked, crossing, walk}
-use Rattle.region_walk.specs.States.{sym_of, known_of}
-use Rattle.region_walk.specs.Ways.{IsCrossedBy}
-use Rattle.region_walk.specs.Crossings.{IsCrossed}
+use Rattle.region_walk.specs.Prelude.{Crossing, Crosses, Blocked, crossing, walk, sym_of, known_of, IsCrossedBy, IsCrossed}
 use Rattle.region_walk.proofs.Numbered.{known_after-sym}
 use Rattle.region_walk.proofs.WalkRelations.{CrossingIs, crossing-is}
 

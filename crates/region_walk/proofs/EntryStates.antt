@@ -4,15 +4,12 @@ use Rattle.std.specs.Prelude.{is_none, replicate}
 use Rattle.std.proofs.lemmas.List.{ext_get_or, get_or_past}
 use Rattle.std.proofs.Math.ListN.{get_or-map, length-map}
 use Rattle.symbolic_values.specs.declared.nodes.Node.{Node}
-use Rattle.trace_patterns.specs.Known.{Known, is_secret, bank_known, start_known}
-use Rattle.trace_patterns.specs.SymStates.{AnySlot, at_entry, entry_tree, entry_slot}
+use Rattle.trace_patterns.specs.Prelude.{Known, is_secret, bank_known, start_known, AnySlot, at_entry, entry_tree, entry_slot}
 use Rattle.trace_patterns.proofs.SymStateLaws.{tree-at_entry, slot-at_entry, sized-at_entry}
 use Rattle.region_walk.specs.declared.states.Slot.{Slot}
 use Rattle.region_walk.specs.declared.states.Slot.TheVariants.{Any}
 use Rattle.region_walk.specs.declared.states.RegionState.{RegionState}
-use Rattle.region_walk.specs.Slots.{known_tree, slot_of, bank_of, NumberFits, NumberedSlotFits}
-use Rattle.region_walk.specs.States.{number_in, slot_at, with_number, with_known_slot, sym_of, known_of}
-use Rattle.region_walk.specs.Entries.{HoldsEntry, BindsEntry, IsEntryNumber, IsEntrySlot, IsAtEntry}
+use Rattle.region_walk.specs.Prelude.{known_tree, slot_of, bank_of, NumberFits, NumberedSlotFits, number_in, slot_at, with_number, with_known_slot, sym_of, known_of, HoldsEntry, BindsEntry, IsEntryNumber, IsEntrySlot, IsAtEntry}
 use Rattle.region_walk.proofs.Numbered.{state-same, set_cases, known_more}
 
 -- one more register

@@ -1,12 +1,10 @@
 -- Tables whose first nodes are the values of an entry.
 use Rattle.std.proofs.Common.{◌≡◌, ℕ, ◌+◌, ◌<◌, List, [], length, get_or, take, set, sym, ap, ◌∙◌, subst, arith, length-take-le}
 use Rattle.symbolic_values.specs.declared.nodes.Node.{Node}
-use Rattle.symbolic_values.specs.Trees.{Value, Reg, SlotAt}
-use Rattle.symbolic_values.specs.Tables.{IsTable, IsNumber, KeepsTrees}
+use Rattle.symbolic_values.specs.Prelude.{Value, Reg, SlotAt, IsTable, IsNumber, KeepsTrees}
 use Rattle.symbolic_values.proofs.TableLaws.{number-first}
 use Rattle.region_walk.specs.declared.region_values.EntryTable.{EntryTable}
-use Rattle.region_walk.specs.Tables.{FindsNumber}
-use Rattle.region_walk.specs.Entries.{Numbers, HasEntries, BeginsWithEntries}
+use Rattle.region_walk.specs.Prelude.{FindsNumber, Numbers, HasEntries, BeginsWithEntries}
 use Rattle.region_walk.proofs.TableGrowth.{gains-own, gains-then, keeps-longer}
 use Rattle.region_walk.proofs.Numbered.{known_more}
 

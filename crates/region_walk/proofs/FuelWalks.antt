@@ -3,15 +3,11 @@ use Rattle.std.proofs.Common.{◌≡◌, ℕ, zero, suc, ◌+◌, ◌-◌, ◌<�
 use Rattle.std.specs.Prelude.{slice_get, if◌then◌else◌}
 use Rattle.std.proofs.lemmas.Bool.{cases_lt, lt-ltb, le-ltb}
 use Rattle.lt_isa.specs.declared.instructions.Instr.{Instr}
-use Rattle.lt_isa.specs.Object.{Parts}
+use Rattle.lt_isa.specs.Prelude.{Parts}
 use Rattle.trace_patterns.specs.declared.reasons.Reason.TheVariants.{UnequalArms}
-use Rattle.trace_patterns.specs.Patterns.{no_events}
-use Rattle.trace_patterns.specs.SymStates.{SymState, common}
-use Rattle.trace_patterns.specs.Single.{Single, Refuses, Goes, Branches, single}
-use Rattle.trace_patterns.specs.Shape.{RegionShape, BadShape, Arms, shape}
-use Rattle.trace_patterns.specs.Walk.{untaken_way, taken_way}
+use Rattle.trace_patterns.specs.Prelude.{no_events, SymState, common, Single, Refuses, Goes, Branches, single, RegionShape, BadShape, Arms, shape, untaken_way, taken_way}
 use Rattle.trace_patterns.proofs.Shapes.{shape-arms}
-use Rattle.region_walk.specs.FuelWalk.{WalkFound, Walked, Stops, Crossing, Crosses, Blocked, Walk, same_shown, compared_arms, walked_arms, crossing, after_pattern, after_crossing, after_single, from_place, walk_within, walk}
+use Rattle.region_walk.specs.Prelude.{WalkFound, Walked, Stops, Crossing, Crosses, Blocked, Walk, same_shown, compared_arms, walked_arms, crossing, after_pattern, after_crossing, after_single, from_place, walk_within, walk}
 
 -- a region joins after its branch, and at `end` at the latest
 abbrev JoinsWithin : (p end : ℕ) → Crossing → Type 0

@@ -4,19 +4,13 @@ use Rattle.std.proofs.lemmas.Bool.{ne_eqb, eqb-false, eq-eqb}
 use Rattle.gr_word.specs.declared.operations.Op.{Op}
 use Rattle.lt_isa.specs.declared.instructions.Instr.{Instr}
 use Rattle.lt_isa.specs.declared.instructions.Instr.TheVariants.{Li, Alu, Ldb, Idb, Ldw}
-use Rattle.lt_isa.specs.Object.{Parts}
+use Rattle.lt_isa.specs.Prelude.{Parts}
 use Rattle.symbolic_values.specs.declared.nodes.Node.{Node}
-use Rattle.symbolic_values.specs.Trees.{Value, Const}
-use Rattle.symbolic_values.specs.Tables.{IsTable}
-use Rattle.trace_patterns.specs.SymStates.{SymState, SymSlot, AnySlot, RamSlot, EramSlot, OramSlot, Loaded, tree_held, hold_tree, hold_slot}
-use Rattle.trace_patterns.specs.Single.{block_held, word_held, applied_trees, named_block}
-use Rattle.trace_patterns.specs.Carried.{held_behind, slot_loaded}
+use Rattle.symbolic_values.specs.Prelude.{Value, Const, IsTable}
+use Rattle.trace_patterns.specs.Prelude.{SymState, SymSlot, AnySlot, RamSlot, EramSlot, OramSlot, Loaded, tree_held, hold_tree, hold_slot, block_held, word_held, applied_trees, named_block, held_behind, slot_loaded}
 use Rattle.region_walk.specs.declared.states.Slot.{Slot}
 use Rattle.region_walk.specs.declared.states.RegionState.{RegionState}
-use Rattle.region_walk.specs.Slots.{known_tree, slot_of, NumberFits, NumberedSlotFits}
-use Rattle.region_walk.specs.States.{number_in, slot_at, with_number, with_known_slot, sym_of, StateFits}
-use Rattle.region_walk.specs.Tables.{TableGains, FindsNumber, FindsHeld}
-use Rattle.region_walk.specs.Carrying.{HoldsBehind}
+use Rattle.region_walk.specs.Prelude.{known_tree, slot_of, NumberFits, NumberedSlotFits, number_in, slot_at, with_number, with_known_slot, sym_of, StateFits, TableGains, FindsNumber, FindsHeld, HoldsBehind}
 use Rattle.region_walk.proofs.TableGrowth.{gains-own, gains-more, keeps-longer}
 use Rattle.region_walk.proofs.Numbered.{tree_held-sym, slot_held-sym, sym_of-keeps, sym_of-register, sym_of-slot, state_fits-more, state_fits-register, state_fits-slot}
 

@@ -7,9 +7,8 @@ use Rattle.std.proofs.lemmas.List.{get_or_default, get_or-take, length-take}
 use Rattle.std.proofs.lemmas.List.Folds.{list_any_at, list_any_none}
 use Rattle.std.proofs.lemmas.List.Sorted.{IsNonDecreasingBy-from_all_adjacent, IsPartitionedBy-leb}
 use Rattle.lt_isa.specs.declared.symbols.Note.{Note}
-use Rattle.lt_isa.specs.Object.{Parts}
-use Rattle.lt_isa.specs.Ranges.{IsInRange, NoteFits}
-use Rattle.trace_patterns.specs.Shape.{has_note_between}
+use Rattle.lt_isa.specs.Prelude.{Parts, IsInRange, NoteFits}
+use Rattle.trace_patterns.specs.Prelude.{has_note_between}
 use Rattle.gr_base.proofs.EachAfter.{EachBelow-from_after}
 use Rattle.gr_base.proofs.AtLast.{at_last-get_or}
 

@@ -5,16 +5,14 @@ use Rattle.std.proofs.lemmas.Bool.{cases_eq, cases_lt}
 use Rattle.std.proofs.lemmas.List.{map-set, get_or_past}
 use Rattle.std.proofs.Math.ListN.{get_or-map}
 use Rattle.symbolic_values.specs.declared.nodes.Node.{Node}
-use Rattle.symbolic_values.specs.Trees.{Value}
-use Rattle.symbolic_values.specs.Tables.{KeepsTrees}
-use Rattle.trace_patterns.specs.SymStates as trees
-use Rattle.trace_patterns.specs.SymStates.{SymState, tree_held, slot_held, hold_tree, hold_slot, slot_bank, known_after}
+use Rattle.symbolic_values.specs.Prelude.{Value, KeepsTrees}
+use Rattle.trace_patterns.specs.Prelude.{SymState, tree_held, slot_held, hold_tree, hold_slot, slot_bank, known_after}
 use Rattle.region_walk.specs.declared.states.Slot.{Slot}
 use Rattle.region_walk.specs.declared.states.Slot.TheVariants.{Any, Ram, Eram, Oram}
 use Rattle.region_walk.specs.declared.states.RegionState.{RegionState}
-use Rattle.region_walk.specs.Slots.{known_tree, origin_of, slot_of, bank_of, NumberFits, NumberedSlotFits}
-use Rattle.region_walk.specs.States.{number_in, slot_at, with_number, with_known_slot, sym_of, known_of, StateFits}
+use Rattle.region_walk.specs.Prelude.{known_tree, origin_of, slot_of, bank_of, NumberFits, NumberedSlotFits, number_in, slot_at, with_number, with_known_slot, sym_of, known_of, StateFits}
 use Rattle.region_walk.proofs.TableGrowth.{keeps-tree}
+use Rattle.trace_patterns.specs.SymStates as trees
 
 -- numbers and slots keep what they represent in a table that grows
 pub held-keeps : (old new : List Node) → KeepsTrees old new → (v : Option ℕ) → NumberFits (length old) v

@@ -2,32 +2,24 @@
 use Rattle.std.proofs.Common.{◌≡◌, ℕ, ◌+◌, ◌-◌, ◌*◌, ◌<◌, ◌≤◌, Bool, ℤ, List, length, refl, sym, ap, ◌∙◌, subst, arith}
 use Rattle.std.specs.Prelude.{if◌then◌else◌}
 use Rattle.std.proofs.lemmas.Bool.{false_from_ne_true}
-use Rattle.lt_isa.specs.Object.{Parts}
+use Rattle.lt_isa.specs.Prelude.{Parts}
 use Rattle.symbolic_values.specs.declared.nodes.Node.{Node}
-use Rattle.symbolic_values.specs.Tables.{IsTable, KeepsTrees}
+use Rattle.symbolic_values.specs.Prelude.{IsTable, KeepsTrees}
 use Rattle.trace_patterns.specs.declared.events.SymEvent.{SymEvent}
 use Rattle.trace_patterns.specs.declared.reasons.Reason.{Reason}
 use Rattle.trace_patterns.specs.declared.reasons.Reason.TheVariants.{UnequalArms}
-use Rattle.trace_patterns.specs.Patterns.{Shown, no_events, with_gap}
-use Rattle.trace_patterns.specs.Events.{TreeEvent, over_trees, NumbersBelow}
-use Rattle.trace_patterns.specs.SymStates.{SymState, common}
-use Rattle.trace_patterns.specs.Single.{gap}
-use Rattle.trace_patterns.specs.Shape.{Arms, shape}
-use Rattle.trace_patterns.specs.Walk.{untaken_way, taken_way}
-use Rattle.region_walk.specs.FuelWalk.{WalkFound, Walked, Stops, Crossing, Crosses, Blocked, walk, crossing, same_shown, compared_arms, walked_arms, after_pattern}
+use Rattle.trace_patterns.specs.Prelude.{Shown, no_events, with_gap, TreeEvent, over_trees, NumbersBelow, SymState, common, gap, Arms, shape, untaken_way, taken_way}
+use Rattle.region_walk.specs.Prelude.{WalkFound, Walked, Stops, Crossing, Crosses, Blocked, walk, crossing, same_shown, compared_arms, walked_arms, after_pattern, sym_of, StateFits, GapsWithin, WayIsReady, GoesTo, IsCrossedBy, IsRegionWalk, going, IsCompared}
 use Rattle.region_walk.proofs.ShownEquality.{decides_shown}
 use Rattle.trace_patterns.proofs.EventPatterns.{over_trees-same, over_trees-keeps, numbers_below-none, numbers_below-more}
 use Rattle.region_walk.specs.declared.walks.Way.{Way}
 use Rattle.region_walk.specs.declared.walks.Region.{Region}
-use Rattle.region_walk.specs.declared.walks.Region.TheVariants as region
 use Rattle.region_walk.specs.declared.states.RegionState.{RegionState}
-use Rattle.region_walk.specs.States.{sym_of, StateFits}
-use Rattle.region_walk.specs.Ways.{GapsWithin, WayIsReady, GoesTo, IsCrossedBy, IsRegionWalk, going}
-use Rattle.region_walk.specs.Arms.{IsCompared}
 use Rattle.region_walk.proofs.TableGrowth.{keeps-then, keeps-longer}
 use Rattle.region_walk.proofs.Numbered.{sym_of-keeps, state_fits-more}
 use Rattle.region_walk.proofs.CommonStates.{sym_of-common, state_fits-common}
 use Rattle.region_walk.proofs.WayLaws.{WalksOn, after-walked, after-stops, going-is, going-end, gaps-none}
+use Rattle.region_walk.specs.declared.walks.Region.TheVariants as region
 
 -- a way that begins with some cycles and no event is in order
 pub ready-from : (q : ℕ) (nodes : List Node) (way : Way) (n : ℕ) (s : RegionState) → IsTable nodes → length nodes

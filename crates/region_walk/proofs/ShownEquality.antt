@@ -4,10 +4,9 @@ use Rattle.std.specs.Bool.{Decides}
 use Rattle.std.specs.Cmp.Lexicographic.{pointwise}
 use Rattle.std.proofs.lemmas.Bool.{false≢true, and_parts, and_from, eqb-true, eq-eqb}
 use Rattle.symbolic_values.proofs.TreeEquality.{same_tree-true, same_tree-own}
-use Rattle.trace_patterns.specs.Patterns.{Shown}
-use Rattle.trace_patterns.specs.Events.{TreeEvent, RamRead, EncRead, EncWrite, Oram}
+use Rattle.trace_patterns.specs.Prelude.{Shown, TreeEvent, RamRead, EncRead, EncWrite, Oram}
 use Rattle.trace_patterns.proofs.PatternEquality.{decides_parts}
-use Rattle.region_walk.specs.FuelWalk.{same_event, same_part, same_shown}
+use Rattle.region_walk.specs.Prelude.{same_event, same_part, same_shown}
 
 same_event-true : (a b : TreeEvent) → same_event a b ≡ true → a ≡ b
 unfolding same_event

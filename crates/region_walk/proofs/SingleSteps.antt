@@ -7,30 +7,19 @@ use Rattle.gr_word.specs.declared.operations.Op.{Op}
 use Rattle.gr_word.specs.declared.operations.Op.TheVariants.{Add, Sub, Mul, Div, Rem, Remu, And, Or, Xor, Shl, Shr}
 use Rattle.lt_isa.specs.declared.instructions.Instr.{Instr}
 use Rattle.lt_isa.specs.declared.instructions.Instr.TheVariants.{Alu, Ldb, Stb}
-use Rattle.lt_isa.specs.Object.{Parts, is_ram, is_eram}
-use Rattle.lt_isa.specs.Costs.{cost_of, operation_cost}
-use Rattle.lt_isa.specs.Ranges.{IsInRange, ProfileFits}
+use Rattle.lt_isa.specs.Prelude.{Parts, is_ram, is_eram, cost_of, operation_cost, IsInRange, ProfileFits}
 use Rattle.lt_isa.specs.declared.profiles.Profile.{Profile}
 use Rattle.symbolic_values.specs.declared.nodes.Node.{Node}
-use Rattle.symbolic_values.specs.Trees.{Value}
-use Rattle.symbolic_values.specs.Tables.{IsTable}
+use Rattle.symbolic_values.specs.Prelude.{Value, IsTable}
 use Rattle.trace_patterns.specs.declared.reasons.Reason.TheVariants.{SecretAddress}
-use Rattle.trace_patterns.specs.Patterns.{Shown}
-use Rattle.trace_patterns.specs.Events.{TreeEvent, RamRead, EncRead, Oram}
-use Rattle.trace_patterns.specs.SymStates.{SymState, SymSlot, AnySlot, RamSlot, EramSlot, OramSlot, Loaded, tree_held, slot_held, hold_slot}
-use Rattle.trace_patterns.specs.Single as whole
-use Rattle.trace_patterns.specs.Single.{event, quietly, stores, at_tree, named_block, single}
-use Rattle.trace_patterns.specs.Carried.{held_behind, ram_loaded, eram_loaded, slot_loaded}
+use Rattle.trace_patterns.specs.Prelude.{Shown, TreeEvent, RamRead, EncRead, Oram, SymState, SymSlot, AnySlot, RamSlot, EramSlot, OramSlot, Loaded, tree_held, slot_held, hold_slot, event, quietly, stores, at_tree, named_block, single, held_behind, ram_loaded, eram_loaded, slot_loaded}
 use Rattle.region_walk.specs.declared.states.Slot.{Slot}
-use Rattle.region_walk.specs.declared.states.Slot.TheVariants as slot
 use Rattle.region_walk.specs.declared.states.RegionState.{RegionState}
-use Rattle.region_walk.specs.Slots.{slot_of, NumberedSlotFits}
-use Rattle.region_walk.specs.States.{slot_at, sym_of, StateFits}
-use Rattle.region_walk.specs.Carrying.{HoldsBehind}
-use Rattle.region_walk.specs.Singles.{ShowsSingle, IsSingle}
-use Rattle.region_walk.specs.Shows.{quiet_after, shown_block, shown_load, shown_store, if_bound, if_stored}
+use Rattle.region_walk.specs.Prelude.{slot_of, NumberedSlotFits, slot_at, sym_of, StateFits, HoldsBehind, ShowsSingle, IsSingle, quiet_after, shown_block, shown_load, shown_store, if_bound, if_stored}
 use Rattle.region_walk.proofs.Numbered.{slot_held-sym}
 use Rattle.region_walk.proofs.HeldBehind.{same-behind}
+use Rattle.trace_patterns.specs.Single as whole
+use Rattle.region_walk.specs.declared.states.Slot.TheVariants as slot
 
 -- an operation takes fewer than 128 cycles
 operation-few : (p : Profile) → ProfileFits p → (op : Op) → operation_cost p op < 128
@@ -116,9 +105,7 @@ module _ (o : Parts) (old new : List Node) (s behind : RegionState) where
       → cost_of o i false 0 < 128 → OnOk held (HoldsBehind o old s i new behind)
       → IsSingle o old s i (if_bound b (quiet_after held (cost_of o i false 0))) new behind
   bound_by i held slot.Any e few h = e
-  bound_by i held (slot.Ram block origin) e few h = quiet-single i held e few h
-  bound_by i held (slot.Eram block) e few h = quiet-single i held e few h
-  bound_by i held (slot.Oram bank) e few h = quiet-single i held e few h
+  bound_by i held other e few h = quiet-single i held e few h
 
   -- an instruction whose slot must be bound
   pub bound-single : (i : Instr) (held : Result (Unit {0}) NoMemory) (k : ℕ) (b : Slot) → b ≡ slot_at s k

@@ -5,7 +5,7 @@ use Rattle.region_walk.specs.declared.states.Origin.{Origin}
 use Rattle.region_walk.specs.declared.states.Origin.TheVariants.{Entry, Loaded}
 use Rattle.region_walk.specs.declared.states.Slot.{Slot}
 use Rattle.region_walk.specs.declared.states.Slot.TheVariants.{Any, Ram, Eram, Oram}
-use Rattle.region_walk.specs.Slots.{IsCommonOf}
+use Rattle.region_walk.specs.Prelude.{IsCommonOf}
 use Rattle.region_walk.specs.contracts.states.OriginPartialEq.TheImpl.{ghosts as origins}
 use Rattle.region_walk.specs.contracts.states.SlotPartialEq.TheImpl.{ghosts}
 use Rattle.region_walk.specs.contracts.states.SlotEq.TheImpl.Laws.{laws-law}

@@ -3,9 +3,8 @@ use Rattle.std.proofs.Common.{◌≡◌, ℕ, ◌+◌, ◌-◌, ◌<◌, ◌≤�
 use Rattle.std.proofs.lemmas.Bool.{cases_eq}
 use Rattle.gr_word.specs.declared.operations.Op.TheVariants.{Remu}
 use Rattle.symbolic_values.specs.declared.nodes.Node.{Node}
-use Rattle.symbolic_values.specs.Trees.{Value, Const, SlotWord, MemWord, Apply, tree_of}
-use Rattle.symbolic_values.specs.Tables.{IsTable, KeepsTrees}
-use Rattle.region_walk.specs.Tables.{TableGains, FindsNumber}
+use Rattle.symbolic_values.specs.Prelude.{Value, Const, SlotWord, MemWord, Apply, tree_of, IsTable, KeepsTrees}
+use Rattle.region_walk.specs.Prelude.{TableGains, FindsNumber}
 
 -- each number keeps its tree
 pub keeps-tree : (old new : List Node) → KeepsTrees old new → (i : ℕ) → i < length old → tree_of new i ≡ tree_of old i

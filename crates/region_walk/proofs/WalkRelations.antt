@@ -7,18 +7,13 @@ use Rattle.std.proofs.lemmas.Option.{slice_get-get_or}
 use Rattle.lt_isa.specs.declared.instructions.Instr.{Instr}
 use Rattle.gr_word.specs.declared.operations.Cmp.{Cmp}
 use Rattle.lt_isa.specs.declared.instructions.Instr.TheVariants.{Nop, Br}
-use Rattle.lt_isa.specs.Object.{Parts}
+use Rattle.lt_isa.specs.Prelude.{Parts}
 use Rattle.trace_patterns.specs.declared.reasons.Reason.{Reason}
 use Rattle.trace_patterns.specs.declared.reasons.Reason.TheVariants.{UnequalArms}
-use Rattle.trace_patterns.specs.Patterns.{Shown, no_events}
-use Rattle.trace_patterns.specs.Events.{TreeEvent}
-use Rattle.trace_patterns.specs.SymStates.{SymState, common}
-use Rattle.trace_patterns.specs.Single.{Single, Refuses, Goes, Branches, single}
-use Rattle.trace_patterns.specs.Shape.{RegionShape, BadShape, Arms, shape}
-use Rattle.trace_patterns.specs.Walk.{untaken_way, taken_way, WalksTo, AtEnd, Onward, Across, CrossesTo, BothArms, StopsAt, AtOnce, Later, Within, Beyond, BlockedAt, ByShape, InFirst, InSecond, Differ}
+use Rattle.trace_patterns.specs.Prelude.{Shown, no_events, TreeEvent, SymState, common, Single, Refuses, Goes, Branches, single, RegionShape, BadShape, Arms, shape, untaken_way, taken_way, WalksTo, AtEnd, Onward, Across, CrossesTo, BothArms, StopsAt, AtOnce, Later, Within, Beyond, BlockedAt, ByShape, InFirst, InSecond, Differ}
 use Rattle.trace_patterns.proofs.Singles.{single-branches, branch-single}
 use Rattle.trace_patterns.proofs.Shapes.{shape-arms}
-use Rattle.region_walk.specs.FuelWalk.{WalkFound, Walked, Stops, Crossing, Crosses, Blocked, same_shown, compared_arms, walked_arms, crossing, after_pattern, after_crossing, after_single, from_place, walk}
+use Rattle.region_walk.specs.Prelude.{WalkFound, Walked, Stops, Crossing, Crosses, Blocked, same_shown, compared_arms, walked_arms, crossing, after_pattern, after_crossing, after_single, from_place, walk}
 use Rattle.region_walk.proofs.ShownEquality.{decides_shown}
 use Rattle.region_walk.proofs.FuelWalks.{walk-end, walk-next}
 

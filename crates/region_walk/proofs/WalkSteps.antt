@@ -1,41 +1,23 @@
 -- A walk continues at a later place exactly as it would have continued before.
-use Rattle.std.proofs.Common.{◌≡◌, ℕ, ◌+◌, ◌-◌, ◌*◌, ◌<◌, ◌≤◌, ℤ, List, length, get_or, Some, refl, sym, ap, ◌∙◌, subst, arith}
+use Rattle.std.proofs.Common.{◌≡◌, ℕ, ◌+◌, ◌-◌, ◌*◌, ◌<◌, ◌≤◌, ℤ, List, length, get_or, Some, sym, ap, ◌∙◌, subst, arith}
 use Rattle.std.specs.Prelude.{slice_get}
 use Rattle.std.proofs.lemmas.Option.{slice_get-get_or}
 use Rattle.lt_isa.specs.declared.instructions.Instr.{Instr}
 use Rattle.lt_isa.specs.declared.instructions.Instr.TheVariants.{Nop}
-use Rattle.lt_isa.specs.Object.{Parts}
+use Rattle.lt_isa.specs.Prelude.{Parts}
 use Rattle.symbolic_values.specs.declared.nodes.Node.{Node}
 use Rattle.trace_patterns.specs.declared.events.SymEvent.{SymEvent}
 use Rattle.trace_patterns.specs.declared.reasons.Reason.{Reason}
-use Rattle.trace_patterns.specs.Patterns.{Shown, with_gap, with_event, joined}
-use Rattle.trace_patterns.specs.Events.{TreeEvent, over_trees, tree_event, NumbersBelow}
-use Rattle.trace_patterns.specs.Single as whole
-use Rattle.trace_patterns.specs.Single.{gap, event, single}
-use Rattle.region_walk.specs.FuelWalk.{Stops, Crossing, Crosses, Blocked, walk, crossing, after_pattern, after_crossing}
+use Rattle.trace_patterns.specs.Prelude.{Shown, with_gap, with_event, joined, TreeEvent, over_trees, tree_event, NumbersBelow, gap, event, single}
+use Rattle.region_walk.specs.Prelude.{Stops, Crossing, Crosses, Blocked, walk, crossing, after_pattern, after_crossing, sym_of, StateFits, ShowsSingle, GoesQuietly, GoesShowing, GapsWithin, WayIsReady, GoesTo, IsNext, IsCrossedBy, going, IsWayOn, GoesOnAt}
 use Rattle.trace_patterns.proofs.EventPatterns.{over_trees-event, over_trees-joined, over_trees-keeps, numbers_below-more, numbers_below-event, numbers_below-joined}
 use Rattle.region_walk.specs.declared.walks.Way.{Way}
 use Rattle.region_walk.specs.declared.states.RegionState.{RegionState}
-use Rattle.region_walk.specs.States.{sym_of, StateFits}
-use Rattle.region_walk.specs.Singles.{ShowsSingle, GoesQuietly, GoesShowing}
-use Rattle.region_walk.specs.Ways.{GapsWithin, WayIsReady, GoesTo, IsNext, IsCrossedBy, going}
-use Rattle.region_walk.specs.Arms.{IsWayOn, GoesOnAt}
 use Rattle.region_walk.specs.declared.walks.Found.{Found as Found'}
 use Rattle.region_walk.specs.declared.walks.Found.TheVariants.{Reaches, Stops as Stops', Memory}
 use Rattle.region_walk.proofs.TableGrowth.{keeps-then, keeps-longer}
 use Rattle.region_walk.proofs.WayLaws.{gaps-more, gaps-gap, gaps-event, gaps-joined, after-both, after-gap, after-event, going-is, going-next}
-
--- before the first step
-pub goes_to-own : (o : Parts) (depth end place : ℕ) (nodes : List Node) (way : Way) → place ≤ end
-    → WayIsReady place nodes way → GoesTo o depth end place nodes way place nodes way
-goes_to-own o depth end place nodes way le ready = record {
-  onward = omega arith;
-  within = le;
-  ready = ready;
-  keeps = λ i t h. h;
-  widens = λ most h. gaps-more most (most + 128 * (place - place)) way.pattern (omega arith) h;
-  same = refl;
-}
+use Rattle.trace_patterns.specs.Single as whole
 
 -- two ways in sequence
 pub goes_to-then : (o : Parts) (depth end a b c : ℕ) (x y z : List Node) (u v w : Way) → GoesTo o depth end a x u b y v

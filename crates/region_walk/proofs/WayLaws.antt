@@ -3,20 +3,15 @@ use Rattle.std.proofs.Common.{◌≡◌, ℕ, zero, suc, ◌+◌, ◌<◌, ◌�
 use Rattle.std.specs.Prelude.{All, slice_get}
 use Rattle.std.proofs.lemmas.List.Elements.{All-append, All-push}
 use Rattle.lt_isa.specs.declared.instructions.Instr.{Instr}
-use Rattle.lt_isa.specs.Object.{Parts}
+use Rattle.lt_isa.specs.Prelude.{Parts}
 use Rattle.symbolic_values.specs.declared.nodes.Node.{Node}
 use Rattle.trace_patterns.specs.declared.events.SymEvent.{SymEvent}
 use Rattle.trace_patterns.specs.declared.reasons.Reason.{Reason}
-use Rattle.trace_patterns.specs.Patterns.{Shown, no_events, with_gap, with_event, joined, joined_parts, first_gap, first_of}
-use Rattle.trace_patterns.specs.Events.{TreeEvent, over_trees}
-use Rattle.trace_patterns.specs.SymStates.{SymState}
-use Rattle.trace_patterns.specs.Single.{Single, gap, event, single}
-use Rattle.region_walk.specs.FuelWalk.{WalkFound, Walked, Stops, walk, after_pattern, after_single, from_place}
+use Rattle.trace_patterns.specs.Prelude.{Shown, no_events, with_gap, with_event, joined, joined_parts, first_gap, first_of, TreeEvent, over_trees, SymState, Single, gap, event, single}
+use Rattle.region_walk.specs.Prelude.{WalkFound, Walked, Stops, walk, after_pattern, after_single, from_place, sym_of, GapsWithin, going}
 use Rattle.trace_patterns.proofs.PatternLaws.{joined-assoc, joined-no_events, joined-gap, joined-event}
 use Rattle.region_walk.proofs.FuelWalks.{walk-end, walk-next}
 use Rattle.region_walk.specs.declared.walks.Way.{Way}
-use Rattle.region_walk.specs.States.{sym_of}
-use Rattle.region_walk.specs.Ways.{GapsWithin, going}
 
 -- a greater bound for the gaps of a pattern
 pub gaps-more : (m n : ℕ) (p : Shown SymEvent) → m ≤ n → GapsWithin m p → GapsWithin n p

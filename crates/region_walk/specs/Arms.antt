@@ -7,8 +7,8 @@ use Rattle.region_walk.specs.declared.walks.Way.{Way}
 use Rattle.region_walk.specs.declared.walks.Found.{Found}
 use Rattle.region_walk.specs.declared.walks.Found.TheVariants.{Reaches, Stops, Memory}
 use Rattle.region_walk.specs.declared.walks.Region.{Region}
-use Rattle.region_walk.specs.declared.walks.Region.TheVariants as region
 use Rattle.region_walk.specs.States.{IsCommon}
+use Rattle.region_walk.specs.declared.walks.Region.TheVariants as region
 
 -- two ways that show the same become one, with what both leave alike
 pub record IsOneWay (jump : ℕ) (untaken taken way : Way) : Type 0 where

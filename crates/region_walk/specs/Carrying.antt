@@ -14,9 +14,9 @@ use Rattle.region_walk.specs.declared.states.RegionState.{RegionState}
 use Rattle.region_walk.specs.declared.carries.Led.{Led}
 use Rattle.region_walk.specs.declared.carries.Led.TheVariants.{Reaches, Unshaped, Memory}
 use Rattle.region_walk.specs.declared.regions.Carried.{Carried}
-use Rattle.region_walk.specs.declared.regions.Carried.TheVariants as carried
 use Rattle.region_walk.specs.States.{sym_of, StateFits}
 use Rattle.region_walk.specs.Tables.{TableGains}
+use Rattle.region_walk.specs.declared.regions.Carried.TheVariants as carried
 
 -- this is known after an instruction that only continues to the next place
 pub record HoldsBehind (o : Parts) (old : List Node) (s : RegionState) (i : Instr) (new : List Node)

@@ -8,14 +8,14 @@ use Rattle.trace_patterns.specs.Known.{Known, bank_known}
 use Rattle.trace_patterns.specs.SymStates.{at_entry, entry_tree, entry_slot}
 use Rattle.region_walk.specs.declared.region_values.EntryTable.{EntryTable}
 use Rattle.region_walk.specs.declared.regions.Crossing.{Crossing}
-use Rattle.region_walk.specs.declared.regions.Crossing.TheVariants as crossing
 use Rattle.region_walk.specs.declared.regions.Carried.{Carried}
-use Rattle.region_walk.specs.declared.regions.Carried.TheVariants as carried
 use Rattle.region_walk.specs.declared.states.Slot.{Slot}
 use Rattle.region_walk.specs.declared.states.RegionState.{RegionState}
 use Rattle.region_walk.specs.Slots.{known_tree, slot_of, NumberFits, NumberedSlotFits}
 use Rattle.region_walk.specs.States.{number_in, slot_at, sym_of, StateFits}
 use Rattle.region_walk.specs.Tables.{TableGains}
+use Rattle.region_walk.specs.declared.regions.Crossing.TheVariants as crossing
+use Rattle.region_walk.specs.declared.regions.Carried.TheVariants as carried
 
 -- the first `count` of some numbers are those of trees 0, 1, ..
 pub record Numbers (count : ℕ) (tree : ℕ → Value) (old new : List Node) (numbers : List ℕ) : Type 0 where

@@ -18,3 +18,4 @@ pub use Rattle.trace_patterns.specs.Carries
 pub use Rattle.trace_patterns.specs.Visits
 pub use Rattle.trace_patterns.specs.SymStates
 pub use Rattle.trace_patterns.specs.Known
+pub mod Prelude

@@ -4,10 +4,10 @@ use Rattle.std.specs.Prelude.{ℕ, ◌+◌, ◌-◌, not, ◌||◌, nat_lt, if�
 use Rattle.lt_isa.specs.declared.instructions.Instr.{Instr}
 use Rattle.lt_isa.specs.Object.{Parts}
 use Rattle.trace_patterns.specs.declared.reasons.Reason.TheVariants.{JumpOutside, SecretLoop, BadRegion}
-use Rattle.trace_patterns.specs.Shape as whole
 use Rattle.trace_patterns.specs.Shape.{first_held, leads_back, places_on, is_jump, jump_offset, is_outside, has_note_between}
 use Rattle.region_walk.specs.declared.shapes.RegionShape.{RegionShape}
 use Rattle.region_walk.specs.declared.shapes.RegionShape.TheVariants.{BadShape, Arms}
+use Rattle.trace_patterns.specs.Shape as whole
 
 -- the shape that the code's value represents
 abbrev pub region_shape_of : RegionShape → whole.RegionShape

@@ -3,11 +3,11 @@
 use Rattle.std.specs.Prelude.{ℕ, Result, Ok, Err}
 use Rattle.gr_base.specs.declared.errors.Memory.{Memory as NoMemory}
 use Rattle.trace_patterns.specs.declared.reasons.Reason.TheVariants.{SecretAddress, UnboundSlot, RamStoreInSecret}
-use Rattle.trace_patterns.specs.declared.events.SymEvent.TheVariants as event
 use Rattle.region_walk.specs.declared.states.Slot.{Slot}
 use Rattle.region_walk.specs.declared.states.Slot.TheVariants.{Any, Ram, Eram, Oram}
 use Rattle.region_walk.specs.declared.singles.Single.{Single}
 use Rattle.region_walk.specs.declared.singles.Single.TheVariants.{Refuses, Quiet, Shows, Memory}
+use Rattle.trace_patterns.specs.declared.events.SymEvent.TheVariants as event
 
 -- no event, unless memory ran out
 abbrev pub quiet_after : Result (Unit {0}) NoMemory → ℕ → Single
@@ -35,9 +35,7 @@ shown_store (Oram bank) = Shows (event.Oram bank)
 -- an instruction whose slot must be bound; and a store of a word, never in plain memory
 abbrev pub if_bound : Slot → Single → Single
 if_bound Any go = Refuses UnboundSlot
-if_bound (Ram block origin) go = go
-if_bound (Eram block) go = go
-if_bound (Oram bank) go = go
+if_bound other go = go
 
 abbrev pub if_stored : Slot → Single → Single
 if_stored Any go = Refuses UnboundSlot

@@ -8,12 +8,12 @@ use Rattle.symbolic_values.specs.declared.nodes.Node.{Node}
 use Rattle.trace_patterns.specs.declared.events.SymEvent.{SymEvent}
 use Rattle.trace_patterns.specs.Patterns.{Shown}
 use Rattle.trace_patterns.specs.Events.{TreeEvent, tree_event, NumberBelow}
-use Rattle.trace_patterns.specs.Single as whole
 use Rattle.region_walk.specs.declared.states.RegionState.{RegionState}
 use Rattle.region_walk.specs.declared.singles.Single.{Single}
 use Rattle.region_walk.specs.declared.singles.Single.TheVariants.{Refuses, Quiet, Shows, Branches, Memory}
 use Rattle.region_walk.specs.Tables.{TableGains}
 use Rattle.region_walk.specs.States.{sym_of, StateFits}
+use Rattle.trace_patterns.specs.Single as whole
 
 -- an instruction shows a pattern, and this is known after it
 pub record ShowsSingle (o : Parts) (old : List Node) (s : RegionState) (i : Instr) (shown : Shown TreeEvent)

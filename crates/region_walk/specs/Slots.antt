@@ -5,11 +5,11 @@ use Rattle.std.specs.Option.{option_map}
 use Rattle.lt_isa.specs.Ranges.{any_bank}
 use Rattle.symbolic_values.specs.declared.nodes.Node.{Node}
 use Rattle.symbolic_values.specs.Trees.{Value, tree_of}
-use Rattle.trace_patterns.specs.SymStates as trees
 use Rattle.region_walk.specs.declared.states.Origin.{Origin}
 use Rattle.region_walk.specs.declared.states.Origin.TheVariants.{Entry, Loaded}
 use Rattle.region_walk.specs.declared.states.Slot.{Slot}
 use Rattle.region_walk.specs.declared.states.Slot.TheVariants.{Any, Ram, Eram, Oram}
+use Rattle.trace_patterns.specs.SymStates as trees
 
 -- the tree of a value, if it is known
 abbrev pub known_tree : List Node → Option ℕ → Option Value

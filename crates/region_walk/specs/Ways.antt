@@ -8,14 +8,14 @@ use Rattle.symbolic_values.specs.Tables.{IsTable, KeepsTrees}
 use Rattle.trace_patterns.specs.declared.events.SymEvent.{SymEvent}
 use Rattle.trace_patterns.specs.Patterns.{Shown}
 use Rattle.trace_patterns.specs.Events.{over_trees, NumbersBelow}
-use Rattle.region_walk.specs.FuelWalk as whole
 use Rattle.region_walk.specs.declared.walks.Way.{Way}
 use Rattle.region_walk.specs.declared.walks.Found.{Found}
 use Rattle.region_walk.specs.declared.walks.Found.TheVariants.{Reaches, Stops, Memory}
 use Rattle.region_walk.specs.declared.walks.Region.{Region}
-use Rattle.region_walk.specs.declared.walks.Region.TheVariants as region
 use Rattle.region_walk.specs.declared.states.RegionState.{RegionState}
 use Rattle.region_walk.specs.States.{sym_of, StateFits}
+use Rattle.region_walk.specs.FuelWalk as whole
+use Rattle.region_walk.specs.declared.walks.Region.TheVariants as region
 
 -- each gap of a pattern has at most `most` cycles
 pub record GapsWithin (most : ℕ) (p : Shown SymEvent) : Type 0 where

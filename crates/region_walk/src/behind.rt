@@ -1,10 +1,8 @@
 ghost use Rattle.std.specs.Prelude.{◌≡◌, ◌<◌, ◌+◌, ◌^◌, ◌-◌, length, pos, List, ℕ, IfOk, OnOk};
-ghost use Rattle.lt_isa.specs.Object.{Parts};
-ghost use Rattle.lt_isa.specs.Ranges.{IsInRange, InstrFits};
+ghost use Rattle.lt_isa.specs.Prelude.{Parts, IsInRange, InstrFits};
 ghost use Rattle.symbolic_values.specs.declared.nodes.Node.{Node as OneNode};
-ghost use Rattle.symbolic_values.specs.Tables.{IsTable};
-ghost use Rattle.symbolic_values.specs.Trees.{Apply, Const, tree_of};
-ghost use Rattle.trace_patterns.specs.Single.{applied_trees, block_held, named_word, word_held, word_tree};
+ghost use Rattle.symbolic_values.specs.Prelude.{IsTable, Apply, Const, tree_of};
+ghost use Rattle.trace_patterns.specs.Prelude.{applied_trees, block_held, named_word, word_held, word_tree};
 ghost use Rattle.region_walk.specs.Slots.{NumberedSlotFits, NumberFits, known_tree, origin_of, slot_of};
 ghost use Rattle.region_walk.specs.States.{StateFits, slot_at};
 ghost use Rattle.region_walk.specs.Tables.{FindsNumber, FindsHeld};

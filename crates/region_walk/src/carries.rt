@@ -1,5 +1,5 @@
 ghost use Rattle.std.specs.Prelude.{◌≡◌, ◌<◌, ◌≤◌, [], length};
-ghost use Rattle.lt_isa.specs.Ranges.{IsInRange, IsOffset};
+ghost use Rattle.lt_isa.specs.Prelude.{IsInRange, IsOffset};
 ghost use Rattle.region_walk.specs.NextSteps.{BranchStands};
 ghost use Rattle.region_walk.specs.Carrying.{StateIsReady, IsLed, IsLedOn, IsLedOver};
 

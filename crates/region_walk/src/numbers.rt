@@ -1,6 +1,5 @@
 ghost use Rattle.std.specs.Prelude.{◌<◌, ◌+◌, ◌^◌, length, IfOk};
-ghost use Rattle.symbolic_values.specs.Tables.{IsTable};
-ghost use Rattle.symbolic_values.specs.Trees.{NamesBelow, built, trees_of};
+ghost use Rattle.symbolic_values.specs.Prelude.{IsTable, NamesBelow, built, trees_of};
 ghost use Rattle.region_walk.specs.Tables.{FindsNumber};
 
 use gr_base::Memory;

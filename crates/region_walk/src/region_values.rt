@@ -1,6 +1,5 @@
 ghost use Rattle.std.specs.Prelude.{◌≡◌, ◌+◌, ◌^◌, ◌<◌, None, length, IfOk};
-ghost use Rattle.symbolic_values.specs.Tables.{IsTable};
-ghost use Rattle.symbolic_values.specs.Trees.{Reg, SlotAt};
+ghost use Rattle.symbolic_values.specs.Prelude.{IsTable, Reg, SlotAt};
 ghost use Rattle.region_walk.specs.Entries.{Numbers, HasEntries, BeginsWithEntries};
 
 use crate::numbers::number_for;

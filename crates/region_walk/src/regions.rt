@@ -1,5 +1,5 @@
 ghost use Rattle.std.specs.Prelude.{length, ◌<◌, ◌≡◌, []};
-ghost use Rattle.lt_isa.specs.Ranges.{IsOffset};
+ghost use Rattle.lt_isa.specs.Prelude.{IsOffset};
 ghost use Rattle.region_walk.specs.Carrying.{IsCarried};
 ghost use Rattle.region_walk.specs.Crossings.{IsCrossing};
 ghost use Rattle.region_walk.specs.Entries.{HasEntries, KeepsEntries, KeepsCarried};

@@ -1,6 +1,6 @@
 ghost use Rattle.std.specs.Prelude.{◌≡◌, ◌<◌, ◌^◌, false, length, slice_get, ◌+◌, ◌-◌};
-ghost use Rattle.lt_isa.specs.Ranges.{IsInRange, IsOffset};
-ghost use Rattle.trace_patterns.specs.Shape.{shape, has_note_between, leads_back, places_on};
+ghost use Rattle.lt_isa.specs.Prelude.{IsInRange, IsOffset};
+ghost use Rattle.trace_patterns.specs.Prelude.{shape, has_note_between, leads_back, places_on};
 ghost use Rattle.region_walk.specs.Shapes.{region_shape_of, ended_by, joined_by};
 
 use lt_isa::{Instr, Object};

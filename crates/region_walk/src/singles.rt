@@ -1,8 +1,7 @@
 ghost use Rattle.std.specs.Prelude.{◌≡◌, ◌<◌, ◌+◌, ◌^◌, length, false};
-ghost use Rattle.lt_isa.specs.Costs.{cost_of};
-ghost use Rattle.lt_isa.specs.Ranges.{IsInRange, InstrFits};
-ghost use Rattle.symbolic_values.specs.Tables.{IsTable};
-ghost use Rattle.trace_patterns.specs.Single.{jump_refused};
+ghost use Rattle.lt_isa.specs.Prelude.{cost_of, IsInRange, InstrFits};
+ghost use Rattle.symbolic_values.specs.Prelude.{IsTable};
+ghost use Rattle.trace_patterns.specs.Prelude.{jump_refused};
 ghost use Rattle.region_walk.specs.States.{StateFits};
 ghost use Rattle.region_walk.specs.Shows.{quiet_after, shown_load, shown_store, if_bound, if_stored};
 ghost use Rattle.region_walk.specs.Singles.{IsSingle};

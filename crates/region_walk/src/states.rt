@@ -1,6 +1,6 @@
 ghost use Rattle.std.specs.Prelude.{◌≡◌, ◌<◌, ◌^◌, ◌-◌, ℕ, length, if◌then◌else◌, None, Some, IfSome};
 ghost use Rattle.region_walk.specs.Slots.{IsCommonOf, bank_of};
-ghost use Rattle.symbolic_values.specs.Trees.{Reg};
+ghost use Rattle.symbolic_values.specs.Prelude.{Reg};
 ghost use Rattle.region_walk.specs.Entries.{HasEntries, IsEntryNumber, IsEntrySlot};
 
 use crate::held_numbers::HeldNumber;

@@ -1,7 +1,7 @@
 ghost use Rattle.std.specs.Prelude.{◌≡◌, ◌<◌, ◌≤◌, ◌+◌, ◌*◌, ◌^◌, length};
-ghost use Rattle.lt_isa.specs.Ranges.{IsInRange, IsOffset};
-ghost use Rattle.symbolic_values.specs.Tables.{IsTable};
-ghost use Rattle.trace_patterns.specs.Patterns.{first_gap, no_events, with_gap};
+ghost use Rattle.lt_isa.specs.Prelude.{IsInRange, IsOffset};
+ghost use Rattle.symbolic_values.specs.Prelude.{IsTable};
+ghost use Rattle.trace_patterns.specs.Prelude.{first_gap, no_events, with_gap};
 ghost use Rattle.region_walk.specs.Singles.{BranchesAt};
 ghost use Rattle.region_walk.specs.States.{StateFits};
 ghost use Rattle.region_walk.specs.Ways.{WayIsReady, IsWalk, IsNext, IsRegionWalk};

@@ -2,9 +2,9 @@
 use Rattle.std.proofs.Common.{◌≡◌, ℕ, suc, ◌+◌, ◌*◌, ◌-◌, ◌<◌, ◌≤◌, List, [], ◌∷◌, ◌++◌, ◌⊎◌, inl, inr, ap, arith}
 use Rattle.std.proofs.lemmas.Bool.{cases_order}
 use Rattle.bank_alloc.specs.declared.places.Place.{Place}
-use Rattle.bank_alloc.specs.Apart.{AreApart, start_of_place, end_of_place}
+use Rattle.bank_alloc.specs.Prelude.{AreApart, start_of_place, end_of_place}
 use Rattle.resident_alloc.specs.declared.wants.Want.{Want}
-use Rattle.resident_alloc.specs.ResidentPlan.{resident_blocks}
+use Rattle.resident_alloc.specs.Prelude.{resident_blocks}
 use Rattle.resident_alloc.proofs.Zones.{base, used, used_rise, ScalarsFitBlock, zones_apart, base_rises, base_within}
 use Rattle.resident_alloc.proofs.Stored.{LiesIn}
 

@@ -5,16 +5,13 @@ use Rattle.std.specs.List.{AllByRecursion}
 use Rattle.std.proofs.Math.Nat.{mod-eq_of_lt}
 use Rattle.std.proofs.lemmas.Bool.{cases_order, eq-eqb}
 use Rattle.src_tree.specs.declared.trees.Decl.{Decl}
-use Rattle.src_tree.specs.Limits.{words_of, LengthFits}
-use Rattle.src_tree.specs.Trees.{Source}
+use Rattle.src_tree.specs.Prelude.{words_of, LengthFits, Source}
 use Rattle.bank_alloc.specs.declared.classes.Class.{Class}
 use Rattle.bank_alloc.specs.declared.classes.Class.TheVariants.{ObliviousArray}
-use Rattle.bank_alloc.specs.Classes.{class_of}
-use Rattle.bank_alloc.specs.Places.{blocks_for}
+use Rattle.bank_alloc.specs.Prelude.{class_of, blocks_for}
 use Rattle.bank_alloc.proofs.EachPlace.{blocks_for-some}
 use Rattle.resident_alloc.specs.declared.wants.Want.{Want}
-use Rattle.resident_alloc.specs.Residents.{is_of, room_for, left_out, is_short, own_most, wants_of}
-use Rattle.resident_alloc.specs.ResidentPlan.{without_short, in_oblivious_banks, blocks_in_turn, resident_blocks, resident_banks}
+use Rattle.resident_alloc.specs.Prelude.{is_of, room_for, left_out, is_short, own_most, wants_of, without_short, in_oblivious_banks, blocks_in_turn, resident_blocks, resident_banks}
 use Rattle.resident_alloc.proofs.Stored.{want}
 use Rattle.resident_alloc.proofs.PlannedEach.{some_word}
 

@@ -7,12 +7,11 @@ use Rattle.std.proofs.lemmas.Bool.{leb-true, le-leb}
 use Rattle.std.proofs.lemmas.List.Sums.{sum_by_push}
 use Rattle.bank_alloc.specs.declared.classes.Class.{Class}
 use Rattle.bank_alloc.specs.declared.classes.Class.TheVariants.{PublicArray, EncryptedArray, ObliviousArray}
-use Rattle.scratch_alloc.specs.Slots.{alternate_slot}
+use Rattle.scratch_alloc.specs.Prelude.{alternate_slot}
 use Rattle.resident_alloc.specs.declared.storages.Storage.{Storage}
 use Rattle.resident_alloc.specs.declared.storages.Storage.TheVariants.{Own, Cached}
 use Rattle.resident_alloc.specs.declared.wants.Want.{Want}
-use Rattle.resident_alloc.specs.Residents.{is_of, room_after, room_for, left_out, unshared, is_short, short_among}
-use Rattle.resident_alloc.specs.ResidentPlan.{spare_slot, slot_by}
+use Rattle.resident_alloc.specs.Prelude.{is_of, room_after, room_for, left_out, unshared, is_short, short_among, spare_slot, slot_by}
 use Rattle.resident_alloc.proofs.Rooms.{left_out-append, left_out_push}
 use Rattle.resident_alloc.proofs.Zones.{short_rise}
 use Rattle.resident_alloc.proofs.Stored.{want, has_room, IsStored, OwnsPublic, OwnsEncrypted, OwnsOblivious, CachesPublic, CachesEncrypted}

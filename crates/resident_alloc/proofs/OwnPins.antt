@@ -10,7 +10,7 @@ use Rattle.std.proofs.lemmas.Bool.{cases_lt, and_parts, and_from, eqb-true, eq-e
 use Rattle.scratch_alloc.specs.declared.plans.Pin.{Pin}
 use Rattle.resident_alloc.specs.declared.storages.Storage.{Storage}
 use Rattle.resident_alloc.specs.declared.storages.Storage.TheVariants.{Scalar, Shared, Own, Cached, Oblivious}
-use Rattle.resident_alloc.specs.ResidentPlan.{Planned, is_own_storage, own_pin, pins_of}
+use Rattle.resident_alloc.specs.Prelude.{Planned, is_own_storage, own_pin, pins_of}
 
 -- what is found in a list is an item of it that passes the test
 record IsFound {X : Type 0} (test : X → Bool) (xs : List X) (x : X) : Type 0 where
@@ -44,10 +44,7 @@ none_found test xs k d is within =
 
 own_storage : (s : Storage) → is_own_storage s ≡ true → s ≡ Own
 own_storage Own is = refl
-own_storage Scalar is = absurd (let e : false ≡ true = is in cc)
-own_storage Shared is = absurd (let e : false ≡ true = is in cc)
-own_storage Cached is = absurd (let e : false ≡ true = is in cc)
-own_storage Oblivious is = absurd (let e : false ≡ true = is in cc)
+own_storage other is = absurd (let e : false ≡ true = is in cc)
 
 -- the block at a variable's place
 abbrev pub pin_of : Planned → Pin

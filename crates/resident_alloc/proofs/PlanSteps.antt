@@ -3,15 +3,12 @@ use Rattle.std.proofs.Common.{◌≡◌, ℕ, ◌+◌, ◌<◌, ◌≤◌, List,
 use Rattle.std.proofs.lemmas.List.{append-nil, take_all, take_more, drop_more, drop_all, length-map}
 use Rattle.std.proofs.lemmas.List.Elements.{All-map}
 use Rattle.src_tree.specs.declared.trees.Decl.{Decl}
-use Rattle.src_tree.specs.Limits.{IsWithinLimits, words_of}
-use Rattle.src_tree.specs.Trees.{Source}
-use Rattle.bank_alloc.specs.Classes.{class_of}
+use Rattle.src_tree.specs.Prelude.{IsWithinLimits, words_of, Source}
+use Rattle.bank_alloc.specs.Prelude.{class_of}
 use Rattle.bank_alloc.proofs.PlacedBehind.{words_fit}
 use Rattle.resident_alloc.specs.declared.storages.Planned.{Planned}
 use Rattle.resident_alloc.specs.declared.wants.Want.{Want}
-use Rattle.resident_alloc.specs.Ranges.{AreShort}
-use Rattle.resident_alloc.specs.ResidentPlan.{planned, planned_behind}
-use Rattle.resident_alloc.specs.Residents.{wants_of}
+use Rattle.resident_alloc.specs.Prelude.{AreShort, planned, planned_behind, wants_of}
 
 -- one variable more
 pub planned_more : (size : ℕ) (all : List Want) (i : ℕ) (d : Want) (of_all more : List Planned) (one : Planned)

@@ -4,17 +4,13 @@ use Rattle.std.proofs.Common.{◌≡◌, ℕ, ◌+◌, ◌*◌, ◌^◌, ◌<◌
 use Rattle.std.proofs.lemmas.Bool.{cases_order}
 use Rattle.std.proofs.lemmas.List.{get_or-map, length-map}
 use Rattle.std.proofs.lemmas.List.FromFn.{get_or-map-range_with_len, length-map-range_with_len}
-use Rattle.src_tree.specs.Limits.{words_of, IsWithinLimits}
-use Rattle.src_tree.specs.Trees.{Source}
-use Rattle.bank_alloc.specs.Apart.{AreApart, start_of_place, end_of_place}
-use Rattle.bank_alloc.specs.Classes.{class_of}
-use Rattle.scratch_alloc.specs.Plans.{decl_at, place_at, slot_at, no_decl, no_place}
+use Rattle.src_tree.specs.Prelude.{words_of, IsWithinLimits, Source}
+use Rattle.bank_alloc.specs.Prelude.{AreApart, start_of_place, end_of_place, class_of}
+use Rattle.scratch_alloc.specs.Prelude.{decl_at, place_at, slot_at, no_decl, no_place}
 use Rattle.resident_alloc.specs.declared.storages.Storage.{Storage}
 use Rattle.resident_alloc.specs.declared.storages.Storage.TheVariants.{Scalar, Own}
 use Rattle.resident_alloc.specs.declared.wants.Want.{Want}
-use Rattle.resident_alloc.specs.Residents.{wants_of}
-use Rattle.resident_alloc.specs.ResidentFits.{ResidentsFit}
-use Rattle.resident_alloc.specs.ResidentPlan.{Planned, planned_for, resident_blocks, resident_banks, resident_plan}
+use Rattle.resident_alloc.specs.Prelude.{wants_of, ResidentsFit, Planned, planned_for, resident_blocks, resident_banks, resident_plan}
 use Rattle.resident_alloc.proofs.Stored.{want}
 use Rattle.resident_alloc.proofs.Served.{IsServed}
 use Rattle.resident_alloc.proofs.Numbered.{in_family, family_rises, IsNumbered, same_number}

@@ -7,18 +7,13 @@ use Rattle.std.proofs.lemmas.List.Sums.{sum_by-cons}
 use Rattle.gr_word.specs.declared.variables.Label.{Label}
 use Rattle.gr_word.specs.declared.variables.Label.TheVariants.{Public, Secret}
 use Rattle.src_tree.specs.declared.trees.Decl.{Decl}
-use Rattle.src_tree.specs.Limits.{words_of, words_of_length, LengthFits, IsWithinLimits}
-use Rattle.src_tree.specs.Trees.{Source}
+use Rattle.src_tree.specs.Prelude.{words_of, words_of_length, LengthFits, IsWithinLimits, Source}
 use Rattle.bank_alloc.specs.declared.classes.Class.{Class}
 use Rattle.bank_alloc.specs.declared.classes.Class.TheVariants.{PublicScalar, SecretScalar}
-use Rattle.bank_alloc.specs.Classes.{class_by, class_of, is_labelled, is_scalar}
-use Rattle.bank_alloc.specs.Fits.{ScalarsFit}
-use Rattle.bank_alloc.specs.Indexes.{has_secret_index}
+use Rattle.bank_alloc.specs.Prelude.{class_by, class_of, is_labelled, is_scalar, ScalarsFit, has_secret_index, is_same}
 use Rattle.bank_alloc.proofs.Apart.{length_at}
 use Rattle.resident_alloc.specs.declared.wants.Want.{Want}
-use Rattle.bank_alloc.specs.PlaceRules.{is_same}
-use Rattle.resident_alloc.specs.Residents.{is_of, wants_of, storage_of}
-use Rattle.resident_alloc.specs.ResidentPlan.{Planned, planned, planned_behind, planned_for}
+use Rattle.resident_alloc.specs.Prelude.{is_of, wants_of, storage_of, Planned, planned, planned_behind, planned_for}
 use Rattle.resident_alloc.proofs.Zones.{ScalarsFitBlock}
 use Rattle.resident_alloc.proofs.Stored.{want, is_scalar_class, LiesIn, stored, lies}
 use Rattle.resident_alloc.proofs.Served.{IsPlaced, IsServed, placed, served}

@@ -6,27 +6,20 @@ use Rattle.std.proofs.lemmas.Bool.{ltb-true, ltb-false}
 use Rattle.std.proofs.lemmas.List.Sums.{sum_by-cons}
 use Rattle.std.proofs.lemmas.List.FromFn.{get_or-map-range_with_len, length-map-range_with_len}
 use Rattle.gr_word.specs.declared.variables.Label.TheVariants.{Public, Secret}
-use Rattle.lt_isa.specs.Limits.{most_blocks}
+use Rattle.lt_isa.specs.Prelude.{most_blocks}
 use Rattle.src_tree.specs.declared.trees.Decl.{Decl}
-use Rattle.src_tree.specs.Trees.{Source}
+use Rattle.src_tree.specs.Prelude.{Source}
 use Rattle.bank_alloc.specs.declared.classes.Class.{Class}
 use Rattle.bank_alloc.specs.declared.classes.Class.TheVariants.{PublicScalar, SecretScalar, PublicArray, EncryptedArray, ObliviousArray}
 use Rattle.bank_alloc.specs.declared.places.PlaceError.{PlaceError}
 use Rattle.bank_alloc.specs.declared.places.PlaceError.TheVariants.{TooManyScalars, BankFull}
-use Rattle.bank_alloc.specs.Classes.{class_of, is_scalar}
-use Rattle.bank_alloc.specs.Fits.{ScalarsFit, scalars_of}
-use Rattle.bank_alloc.specs.Indexes.{has_secret_index}
-use Rattle.bank_alloc.specs.Lacks.{first_full}
-use Rattle.bank_alloc.specs.PlaceRules.{is_same}
+use Rattle.bank_alloc.specs.Prelude.{class_of, is_scalar, ScalarsFit, scalars_of, has_secret_index, first_full, is_same}
 use Rattle.bank_alloc.proofs.Refusals.{found_full, is_scalar_class, none_full, scalar_by, some_is}
 use Rattle.resident_alloc.specs.declared.wants.Want.{Want}
 use Rattle.bank_alloc.specs.declared.places.Places.{Places}
-use Rattle.scratch_alloc.specs.Plans.{Plan, plan_from}
+use Rattle.scratch_alloc.specs.Prelude.{Plan, plan_from}
 use Rattle.scratch_alloc.specs.declared.plans.SlotPlan.{SlotPlan}
-use Rattle.resident_alloc.specs.Ranges.{plan_of, scalars_lack}
-use Rattle.resident_alloc.specs.ResidentFits.{ResidentsFit, ResidentsRefuse}
-use Rattle.resident_alloc.specs.ResidentPlan.{planned, resident_banks, resident_blocks}
-use Rattle.resident_alloc.specs.Residents.{is_of, wants_of}
+use Rattle.resident_alloc.specs.Prelude.{plan_of, scalars_lack, ResidentsFit, ResidentsRefuse, planned, resident_banks, resident_blocks, is_of, wants_of}
 
 -- there are ten banks at most
 pub banks_few : (size : ℕ) (all : List Want) → resident_banks size all ≤ 10

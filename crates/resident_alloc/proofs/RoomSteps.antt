@@ -7,9 +7,7 @@ use Rattle.std.proofs.lemmas.List.{append-nil, at_drop_more, at_drop_all}
 use Rattle.std.proofs.lemmas.List.Elements.{All-nil, All-cons, All-head, All-tail}
 use Rattle.bank_alloc.specs.declared.classes.Class.{Class}
 use Rattle.resident_alloc.specs.declared.wants.Want.{Want}
-use Rattle.resident_alloc.specs.Ranges.{AreShort, is_left_out, is_skipped, room_behind}
-use Rattle.resident_alloc.specs.Residents.{is_of, is_short, left_out, room_after}
-use Rattle.resident_alloc.specs.ResidentPlan.{without_short}
+use Rattle.resident_alloc.specs.Prelude.{AreShort, is_left_out, is_skipped, room_behind, is_of, is_short, left_out, room_after, without_short}
 use Rattle.resident_alloc.proofs.Rooms.{none_without}
 
 -- a room after one more variable

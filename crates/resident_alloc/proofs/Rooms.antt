@@ -5,8 +5,7 @@ use Rattle.std.proofs.lemmas.Bool.{ltb-false}
 use Rattle.std.proofs.lemmas.List.Sums.{sum_by-cons}
 use Rattle.bank_alloc.specs.declared.classes.Class.{Class}
 use Rattle.resident_alloc.specs.declared.wants.Want.{Want}
-use Rattle.resident_alloc.specs.Residents.{is_of, room_after, left_out, is_short, short_among}
-use Rattle.resident_alloc.specs.ResidentPlan.{without_short, blocks_in_turn}
+use Rattle.resident_alloc.specs.Prelude.{is_of, room_after, left_out, is_short, short_among, without_short, blocks_in_turn}
 
 -- what is left of a room after two lists, and never more than before
 

@@ -4,21 +4,18 @@ use Rattle.std.specs.Prelude.{nat_le, count_by}
 use Rattle.std.proofs.Math.Nat.{mod-le}
 use Rattle.std.proofs.lemmas.Bool.{leb-true}
 use Rattle.std.proofs.lemmas.List.Sums.{sum_by_push}
-use Rattle.gr_base.specs.Lists.{Within}
+use Rattle.gr_base.specs.Prelude.{Within}
 use Rattle.gr_word.specs.declared.variables.Label.{Label}
 use Rattle.gr_word.specs.declared.variables.Label.TheVariants.{Public, Secret}
 use Rattle.bank_alloc.specs.declared.classes.Class.{Class}
 use Rattle.bank_alloc.specs.declared.classes.Class.TheVariants.{PublicScalar, SecretScalar, PublicArray, EncryptedArray, ObliviousArray}
 use Rattle.bank_alloc.specs.declared.places.Place.{Place}
-use Rattle.bank_alloc.specs.Apart.{IsBankOf, scalar_bank}
-use Rattle.bank_alloc.specs.Classes.{class_by}
-use Rattle.bank_alloc.specs.PlaceRules.{is_same}
-use Rattle.scratch_alloc.specs.Plans.{Serves, PlainSlot, EncryptedSlot}
+use Rattle.bank_alloc.specs.Prelude.{IsBankOf, scalar_bank, class_by, is_same}
+use Rattle.scratch_alloc.specs.Prelude.{Serves, PlainSlot, EncryptedSlot}
 use Rattle.resident_alloc.specs.declared.storages.Storage.{Storage}
 use Rattle.resident_alloc.specs.declared.storages.Storage.TheVariants.{Scalar, Shared, Own, Cached, Oblivious}
 use Rattle.resident_alloc.specs.declared.wants.Want.{Want}
-use Rattle.resident_alloc.specs.Residents.{is_of, room_after, room_beside, room_for, unshared, own_most}
-use Rattle.resident_alloc.specs.ResidentPlan.{without_short, in_oblivious_banks, place_by, slot_by, resident_banks}
+use Rattle.resident_alloc.specs.Prelude.{is_of, room_after, room_beside, room_for, unshared, own_most, without_short, in_oblivious_banks, place_by, slot_by, resident_banks}
 use Rattle.resident_alloc.proofs.Rooms.{room_after-le, left_out_push, without_short_push}
 use Rattle.resident_alloc.proofs.Zones.{ScalarsFitBlock, counts_rise, in_banks_rise}
 use Rattle.resident_alloc.proofs.Stored.{want, is_scalar_class, IsStored, ScalarOfPublic, ScalarOfSecret, SharesPublic, SharesEncrypted, SharesOblivious, OwnsPublic, OwnsEncrypted, OwnsOblivious, CachesPublic, CachesEncrypted, InObliviousBank}
@@ -175,20 +172,16 @@ placed size all before n rest c s some word fit whole (SharesOblivious room) = r
 }
 placed size all before n rest c s some word fit whole (OwnsPublic long short few) =
     record { label = refl; banks = omega arith; words = refl; word = some }
-placed size all before n rest c s some word fit whole (OwnsEncrypted long short few) =
-    record { label = omega arith; banks = omega arith; words = refl; word = some }
-placed size all before n rest c s some word fit whole (OwnsOblivious long short few) =
-    record { label = omega arith; banks = omega arith; words = refl; word = some }
 placed size all before n rest c s some word fit whole (CachesPublic long) =
     record { label = refl; banks = omega arith; words = refl; word = some }
-placed size all before n rest c s some word fit whole (CachesEncrypted long) =
-    record { label = omega arith; banks = omega arith; words = refl; word = some }
 placed size all before n rest c s some word fit whole (InObliviousBank long other) = record {
   label = omega arith;
   banks = turn_within size all before n rest whole (InObliviousBank long other);
   words = refl;
   word = some;
 }
+placed size all before n rest c s some word fit whole other =
+    record { label = omega arith; banks = omega arith; words = refl; word = some }
 
 in_turn_within : (slot arrays : ℕ) → Within slot (slot + 1) (slot + arrays % 2)
 in_turn_within slot arrays = (omega arith, omega (arith, mod-le arrays 2))

@@ -3,18 +3,14 @@ use Rattle.std.proofs.Common.{◌≡◌, ℕ, zero, suc, ◌*◌, ◌^◌, ◌<�
 use Rattle.std.proofs.Math.Nat.{mul-le-mul_left}
 use Rattle.std.proofs.lemmas.Bool.{cases_eq, cases_lt}
 use Rattle.std.proofs.lemmas.Nat.{pow_pos}
-use Rattle.src_tree.specs.Limits.{IsWithinLimits}
-use Rattle.src_tree.specs.Trees.{Source}
-use Rattle.bank_alloc.specs.Apart.{end_of_place}
-use Rattle.bank_alloc.specs.Classes.{class_of}
+use Rattle.src_tree.specs.Prelude.{IsWithinLimits, Source}
+use Rattle.bank_alloc.specs.Prelude.{end_of_place, class_of}
 use Rattle.bank_alloc.proofs.Apart.{scalar_bank-lt}
 use Rattle.scratch_alloc.specs.declared.plans.Pin.{Pin}
-use Rattle.scratch_alloc.specs.Plans.{IsSoundPin, decl_at, no_decl}
+use Rattle.scratch_alloc.specs.Prelude.{IsSoundPin, decl_at, no_decl}
 use Rattle.resident_alloc.specs.declared.storages.Storage.{Storage}
 use Rattle.resident_alloc.specs.declared.storages.Storage.TheVariants.{Own, Cached}
-use Rattle.resident_alloc.specs.Residents.{wants_of}
-use Rattle.resident_alloc.specs.ResidentFits.{ResidentsFit}
-use Rattle.resident_alloc.specs.ResidentPlan.{planned_for, own_pin, pins_of, resident_banks, resident_blocks, resident_plan}
+use Rattle.resident_alloc.specs.Prelude.{wants_of, ResidentsFit, planned_for, own_pin, pins_of, resident_banks, resident_blocks, resident_plan}
 use Rattle.resident_alloc.proofs.Served.{IsAlone, IsCached, class_label}
 use Rattle.resident_alloc.proofs.Numbered.{IsNumbered, numbered_slot}
 use Rattle.resident_alloc.proofs.OwnPins.{pin_of, OwnsSlot, owns_slot, own_pin_some, IsPinned, ByScalars, ByArray, pin_by_array}

@@ -1,23 +1,17 @@
 -- The plan of resident variables is sound for each program with room for them.
 use Rattle.std.proofs.Common.{◌≡◌, ℕ, ◌*◌, ◌^◌, ◌<◌, ◌≤◌, true, false, length, get_or, Option, Some, None, inl, refl, sym, ap, ◌∙◌, subst, arith}
 use Rattle.std.proofs.lemmas.Nat.{pow_pos}
-use Rattle.gr_base.specs.Lists.{Within}
-use Rattle.src_tree.specs.Limits.{IsWithinLimits}
-use Rattle.src_tree.specs.Trees.{Source}
+use Rattle.gr_base.specs.Prelude.{Within}
+use Rattle.src_tree.specs.Prelude.{IsWithinLimits, Source}
 use Rattle.bank_alloc.specs.declared.classes.Class.TheVariants.{ObliviousArray}
 use Rattle.bank_alloc.specs.declared.places.Place.{Place}
-use Rattle.bank_alloc.specs.Apart.{IsBankOf, AreApart, scalar_bank}
-use Rattle.bank_alloc.specs.Classes.{class_of}
-use Rattle.bank_alloc.specs.Indexes.{has_secret_index}
-use Rattle.bank_alloc.specs.PlaceRules.{is_same}
+use Rattle.bank_alloc.specs.Prelude.{IsBankOf, AreApart, scalar_bank, class_of, has_secret_index, is_same}
 use Rattle.bank_alloc.proofs.Apart.{scalar_bank-lt}
 use Rattle.scratch_alloc.specs.declared.plans.Pin.{Pin}
-use Rattle.scratch_alloc.specs.Plans.{IsSoundPlan, IsSoundPlace, IsSoundByPin, Serves, ObliviousSlot, pin_of_slot, decl_at, place_at, slot_at}
+use Rattle.scratch_alloc.specs.Prelude.{IsSoundPlan, IsSoundPlace, IsSoundByPin, Serves, ObliviousSlot, pin_of_slot, decl_at, place_at, slot_at}
 use Rattle.resident_alloc.specs.declared.storages.Storage.{Storage}
 use Rattle.resident_alloc.specs.declared.storages.Storage.TheVariants.{Scalar, Shared, Own, Cached, Oblivious}
-use Rattle.resident_alloc.specs.Residents.{wants_of}
-use Rattle.resident_alloc.specs.ResidentFits.{ResidentsFit}
-use Rattle.resident_alloc.specs.ResidentPlan.{planned_for, pins_of, resident_banks, resident_plan}
+use Rattle.resident_alloc.specs.Prelude.{wants_of, ResidentsFit, planned_for, pins_of, resident_banks, resident_plan}
 use Rattle.resident_alloc.proofs.Served.{class_label, class_label-is, array_length, IsBeside}
 use Rattle.resident_alloc.proofs.OwnPins.{pin_of, pinned}
 use Rattle.resident_alloc.proofs.BlocksSome.{bank_some}

@@ -6,14 +6,12 @@ use Rattle.std.proofs.lemmas.List.Sums.{sum_by_push}
 use Rattle.bank_alloc.specs.declared.classes.Class.{Class}
 use Rattle.bank_alloc.specs.declared.classes.Class.TheVariants.{PublicScalar, SecretScalar, PublicArray, EncryptedArray, ObliviousArray}
 use Rattle.bank_alloc.specs.declared.places.Place.{Place}
-use Rattle.bank_alloc.specs.Apart.{start_of_place, end_of_place}
-use Rattle.bank_alloc.specs.Places.{blocks_for}
+use Rattle.bank_alloc.specs.Prelude.{start_of_place, end_of_place, blocks_for}
 use Rattle.bank_alloc.proofs.EachPlace.{blocks_for-hold}
 use Rattle.resident_alloc.specs.declared.storages.Storage.{Storage}
 use Rattle.resident_alloc.specs.declared.storages.Storage.TheVariants.{Scalar, Shared, Own, Cached, Oblivious}
 use Rattle.resident_alloc.specs.declared.wants.Want.{Want}
-use Rattle.resident_alloc.specs.Residents.{is_of, room_after, room_beside, room_for, unshared, is_short, short_among, blocks_of_all, own_most, is_own, storage_of}
-use Rattle.resident_alloc.specs.ResidentPlan.{without_short, in_oblivious_banks, blocks_in_turn, place_by}
+use Rattle.resident_alloc.specs.Prelude.{is_of, room_after, room_beside, room_for, unshared, is_short, short_among, blocks_of_all, own_most, is_own, storage_of, without_short, in_oblivious_banks, blocks_in_turn, place_by}
 use Rattle.resident_alloc.proofs.Rooms.{room_after-le, room_after_push, left_out_push, without_short_push, blocks_in_turn-append}
 use Rattle.resident_alloc.proofs.Zones.{base, used}
 

@@ -6,10 +6,9 @@ use Rattle.std.proofs.Math.Nat.{mul-le-mul_left}
 use Rattle.std.proofs.lemmas.List.Sums.{sum_by-append}
 use Rattle.bank_alloc.specs.declared.classes.Class.{Class}
 use Rattle.bank_alloc.specs.declared.classes.Class.TheVariants.{PublicScalar, SecretScalar, PublicArray, EncryptedArray, ObliviousArray}
-use Rattle.bank_alloc.specs.Places.{blocks_for}
+use Rattle.bank_alloc.specs.Prelude.{blocks_for}
 use Rattle.resident_alloc.specs.declared.wants.Want.{Want}
-use Rattle.resident_alloc.specs.Residents.{is_of, room_after, room_beside, room_for, left_out, unshared, is_short, short_among, blocks_of_all, own_most}
-use Rattle.resident_alloc.specs.ResidentPlan.{own_secret, without_short, in_oblivious_banks, blocks_in_turn, resident_blocks}
+use Rattle.resident_alloc.specs.Prelude.{is_of, room_after, room_beside, room_for, left_out, unshared, is_short, short_among, blocks_of_all, own_most, own_secret, without_short, in_oblivious_banks, blocks_in_turn, resident_blocks}
 use Rattle.resident_alloc.proofs.Rooms.{room_after-append, room_after-le, left_out-append, without_short-append, blocks_in_turn-append}
 
 -- where a zone begins. Bank 0 has zones of shared arrays, of scalars and of whole blocks; bank 1 of shared arrays with a

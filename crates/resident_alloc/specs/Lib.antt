@@ -5,3 +5,4 @@ pub mod Ranges
 pub use Rattle.src_tree.specs.Trees
 pub use Rattle.src_tree.specs.Typing
 pub use Rattle.src_tree.specs.Limits
+pub mod Prelude

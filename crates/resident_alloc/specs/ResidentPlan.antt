@@ -12,10 +12,10 @@ use Rattle.scratch_alloc.specs.declared.plans.Pin.{Pin}
 use Rattle.scratch_alloc.specs.Plans.{Plan}
 use Rattle.scratch_alloc.specs.Slots.{alternate_slot}
 use Rattle.resident_alloc.specs.declared.wants.Want.{Want}
-pub use Rattle.resident_alloc.specs.declared.storages.Planned.{Planned}
 use Rattle.resident_alloc.specs.declared.storages.Storage.{Storage}
 use Rattle.resident_alloc.specs.declared.storages.Storage.TheVariants.{Shared, Own}
 use Rattle.resident_alloc.specs.Residents.{is_of, room_after, room_beside, room_for, unshared, is_short, short_among, blocks_of_all, own_most, storage_of, wants_of}
+pub use Rattle.resident_alloc.specs.declared.storages.Planned.{Planned}
 
 -- how many secret arrays with a secret index have a slot of their own, and a block of encrypted memory
 abbrev pub own_secret : ℕ → List Want → ℕ

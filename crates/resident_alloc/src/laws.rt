@@ -1,8 +1,7 @@
 ghost use Rattle.std.specs.Prelude.{◌≡◌, ℕ};
-ghost use Rattle.gr_base.specs.Lists.{Within};
-ghost use Rattle.src_tree.specs.Limits.{IsWithinLimits};
-ghost use Rattle.src_tree.specs.Trees.{Source};
-ghost use Rattle.scratch_alloc.specs.Plans.{IsSoundPlan};
+ghost use Rattle.gr_base.specs.Prelude.{Within};
+ghost use Rattle.src_tree.specs.Prelude.{IsWithinLimits, Source};
+ghost use Rattle.scratch_alloc.specs.Prelude.{IsSoundPlan};
 ghost use Rattle.resident_alloc.specs.ResidentFits.{ResidentsFit};
 ghost use Rattle.resident_alloc.specs.ResidentPlan.{resident_plan};
 

@@ -1,18 +1,9 @@
 ghost use Rattle.std.specs.Prelude.{◌≡◌, ◌*◌, ◌+◌, ◌-◌, ◌≤◌, min, nat_le, IfOk, if◌then◌else◌, length};
-ghost use Rattle.lt_isa.specs.Limits.{most_blocks};
-ghost use Rattle.gr_base.specs.Lists.{Within};
-ghost use Rattle.src_tree.specs.Limits.{max_length};
+ghost use Rattle.lt_isa.specs.Prelude.{most_blocks};
+ghost use Rattle.gr_base.specs.Prelude.{Within};
+ghost use Rattle.src_tree.specs.Prelude.{max_length};
 ghost use Rattle.resident_alloc.specs.Ranges.{AreShort, IsPlannable, is_skipped};
-ghost use Rattle.resident_alloc.specs.Residents.{
-  array_storage,
-  blocks_of_all,
-  is_own,
-  is_short,
-  otherwise_stored,
-  own_most,
-  short_among,
-  storage_of,
-};
+ghost use Rattle.resident_alloc.specs.Residents.{array_storage, blocks_of_all, is_own, is_short, otherwise_stored, own_most, short_among, storage_of};
 ghost use Rattle.resident_alloc.specs.ResidentPlan.{in_oblivious_banks, own_secret, without_short};
 
 use crate::sharing::{is_shared, unshared};

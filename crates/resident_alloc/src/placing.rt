@@ -1,23 +1,12 @@
 ghost use Rattle.std.specs.Prelude.{◌≡◌, ◌*◌, ◌+◌, ◌%◌, ◌≤◌, ◌==◌, IfOk, if◌then◌else◌};
-ghost use Rattle.gr_base.specs.Lists.{Within};
-ghost use Rattle.src_tree.specs.Limits.{max_length};
-ghost use Rattle.bank_alloc.specs.Places.{blocks_for};
-ghost use Rattle.bank_alloc.specs.declared.classes.Class.TheVariants.{
-  EncryptedArray,
-  ObliviousArray,
-  PublicArray,
-};
+ghost use Rattle.gr_base.specs.Prelude.{Within};
+ghost use Rattle.src_tree.specs.Prelude.{max_length};
+ghost use Rattle.bank_alloc.specs.Prelude.{blocks_for};
+ghost use Rattle.bank_alloc.specs.declared.classes.Class.TheVariants.{EncryptedArray, ObliviousArray, PublicArray};
 ghost use Rattle.resident_alloc.specs.declared.storages.Storage.TheVariants.{Cached, Oblivious, Own};
 ghost use Rattle.resident_alloc.specs.Ranges.{AreShort, IsPlannable};
 ghost use Rattle.resident_alloc.specs.Residents.{room_beside};
-ghost use Rattle.resident_alloc.specs.ResidentPlan.{
-  block_place,
-  blocks_in_turn,
-  oblivious_place,
-  place_by,
-  scalar_place,
-  shared_place,
-};
+ghost use Rattle.resident_alloc.specs.ResidentPlan.{block_place, blocks_in_turn, oblivious_place, place_by, scalar_place, shared_place};
 
 use crate::owning::{blocks_of_all, in_oblivious_banks, own_secret, short_among};
 use crate::sharing::{room_after, room_beside, room_for, unshared};

@@ -1,11 +1,9 @@
 ghost use Rattle.std.specs.Prelude.{◌≡◌, ◌^◌, ◌<◌, ◌≤◌, ◌==◌, ◌&&◌, IfOk, IfErr, OnOk, OnErr, length, map};
 ghost use Rattle.std.specs.List.{range_with_len};
-ghost use Rattle.gr_base.specs.Lists.{Within};
-ghost use Rattle.src_tree.specs.Limits.{IsWithinLimits};
-ghost use Rattle.src_tree.specs.Trees.{source_of};
-ghost use Rattle.src_tree.specs.Typing.{IsTyped};
-ghost use Rattle.bank_alloc.specs.Lacks.{first_full};
-ghost use Rattle.scratch_alloc.specs.Plans.{plan_from};
+ghost use Rattle.gr_base.specs.Prelude.{Within};
+ghost use Rattle.src_tree.specs.Prelude.{IsWithinLimits, source_of, IsTyped};
+ghost use Rattle.bank_alloc.specs.Prelude.{first_full};
+ghost use Rattle.scratch_alloc.specs.Prelude.{plan_from};
 ghost use Rattle.resident_alloc.specs.Ranges.{AreShort, plan_of, scalars_lack};
 ghost use Rattle.resident_alloc.specs.ResidentFits.{ResidentsFit, ResidentsRefuse};
 ghost use Rattle.resident_alloc.specs.ResidentPlan.{is_own_storage, own_pin, pins_of, resident_banks, resident_blocks, resident_plan};

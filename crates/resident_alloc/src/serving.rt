@@ -1,10 +1,6 @@
 ghost use Rattle.std.specs.Prelude.{◌≡◌, ◌<◌, IfOk, length};
-ghost use Rattle.bank_alloc.specs.declared.classes.Class.TheVariants.{
-  EncryptedArray,
-  ObliviousArray,
-  PublicArray,
-};
-ghost use Rattle.scratch_alloc.specs.Slots.{alternate_slot};
+ghost use Rattle.bank_alloc.specs.declared.classes.Class.TheVariants.{EncryptedArray, ObliviousArray, PublicArray};
+ghost use Rattle.scratch_alloc.specs.Prelude.{alternate_slot};
 ghost use Rattle.resident_alloc.specs.declared.storages.Storage.TheVariants.{Own};
 ghost use Rattle.resident_alloc.specs.Ranges.{IsPlannable};
 ghost use Rattle.resident_alloc.specs.Residents.{unshared};

@@ -1,5 +1,5 @@
 ghost use Rattle.std.specs.Prelude.{◌≡◌, IfOk, []};
-ghost use Rattle.gr_base.specs.Lists.{Within};
+ghost use Rattle.gr_base.specs.Prelude.{Within};
 ghost use Rattle.resident_alloc.specs.Ranges.{AreShort, IsPlannable};
 ghost use Rattle.resident_alloc.specs.ResidentPlan.{planned, planned_behind};
 

@@ -1,7 +1,5 @@
 ghost use Rattle.std.specs.Prelude.{◌≡◌, ◌≤◌, IfOk, length, count_by};
-ghost use Rattle.src_tree.specs.Limits.{IsWithinLimits};
-ghost use Rattle.src_tree.specs.Trees.{source_of};
-ghost use Rattle.src_tree.specs.Typing.{IsTyped};
+ghost use Rattle.src_tree.specs.Prelude.{IsWithinLimits, source_of, IsTyped};
 ghost use Rattle.resident_alloc.specs.Ranges.{AreShort};
 ghost use Rattle.resident_alloc.specs.Residents.{is_of, wants_of};
 

@@ -10,7 +10,7 @@ use Rattle.gr_base.proofs.Permuted.{EachTwo}
 use Rattle.gr_base.proofs.Orderless.{IsCongruence, same_permuted}
 use Rattle.gr_word.specs.declared.variables.Want.{Want}
 use Rattle.run_data.specs.declared.errors.InputError.{InputError}
-use Rattle.run_data.specs.InputsOf.{value_fault, named_fault, or_else, first_input_fault, words_given, unless_fault, inputs_of}
+use Rattle.run_data.specs.Prelude.{value_fault, named_fault, or_else, first_input_fault, words_given, unless_fault, inputs_of}
 use Rattle.run_data.proofs.MemberOrder.{Differ}
 
 abbrev Alike : List Want → List Want → Type 0

@@ -12,10 +12,10 @@ use Rattle.serde_json.specs.Find.{get_member, as_number}
 use Rattle.gr_word.specs.declared.variables.Want.{Want}
 use Rattle.gr_word.specs.declared.variables.Shape.{Shape}
 use Rattle.gr_word.specs.declared.variables.Shape.TheVariants.{Scalar, Array}
-use Rattle.gr_word.specs.Fitting.{AreWords, AreDistinct, AreVariables, FitsWants}
+use Rattle.gr_word.specs.Prelude.{AreWords, AreDistinct, AreVariables, FitsWants}
 use Rattle.run_data.specs.declared.errors.InputError.{InputError}
 use Rattle.run_data.specs.declared.errors.InputError.TheVariants.{WrongShape, WrongLength}
-use Rattle.run_data.specs.InputsOf.{has_length, list_fault, listed_values, value_fault, named_fault, or_else, first_input_fault, words_listed, words_given}
+use Rattle.run_data.specs.Prelude.{has_length, list_fault, listed_values, value_fault, named_fault, or_else, first_input_fault, words_listed, words_given}
 
 pub or_else-none : (first second : Option InputError) → or_else first second ≡ None → (first ≡ None) × (second ≡ None)
 or_else-none None second is = (refl, is)

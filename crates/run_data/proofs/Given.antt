@@ -16,8 +16,7 @@ use Rattle.gr_word.specs.declared.variables.Shape.TheVariants.{Scalar, Array}
 use Rattle.run_data.specs.declared.errors.InputError.{InputError}
 use Rattle.run_data.specs.declared.errors.InputError.TheVariants.{NotAnObject, WrongShape}
 use Rattle.run_data.specs.declared.members.Given.{Given}
-use Rattle.run_data.specs.InputsOf.{is_word, listed_values, list_fault, value_fault, named_fault, or_else, first_input_fault, words_listed, words_given, unless_fault, inputs_in, inputs_of}
-use Rattle.run_data.specs.Given.{GivenValue, given_of, given_view, given_members, least_given, entries_view, given_values, given_list_fault, given_value_fault, given_named_fault, first_given_fault, find_given, given_words}
+use Rattle.run_data.specs.Prelude.{is_word, listed_values, list_fault, value_fault, named_fault, or_else, first_input_fault, words_listed, words_given, unless_fault, inputs_in, inputs_of, GivenValue, given_of, given_view, given_members, least_given, entries_view, given_values, given_list_fault, given_value_fault, given_named_fault, first_given_fault, find_given, given_words}
 
 -- the words of a list of values, and whether all of them are words
 abbrev summed : List Data → List ℤ × Bool

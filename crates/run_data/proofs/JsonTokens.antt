@@ -7,22 +7,15 @@ use Rattle.json.proofs.Grammar.{value_is, value-begin_array, value-begin_object}
 use Rattle.serde_json.specs.Data.{Data, Num, null, boolean, number, string, array, object, no_members}
 use Rattle.serde_json.specs.Find.{as_i64, as_object}
 use Rattle.serde_json.specs.Read.{number_of, of_json, of_items, of_members, converted}
-use Rattle.run_data.specs.InputsOf.{word_of}
-use Rattle.run_data.specs.Given.{GivenValue, a_number, another, given_of}
+use Rattle.run_data.specs.Prelude.{word_of, GivenValue, a_number, another, given_of}
 use Rattle.run_data.proofs.JsonReading.{converted-array, converted-object}
 
 -- a text, true, false or null
 abbrev pub is_plain : Token → Bool
-is_plain Token.begin_object = false
-is_plain Token.end_object = false
-is_plain Token.begin_array = false
-is_plain Token.end_array = false
-is_plain (Token.key s) = false
 is_plain (Token.string s) = true
-is_plain (Token.number s) = false
 is_plain (Token.boolean b) = true
 is_plain Token.null = true
-is_plain Token.bad = false
+is_plain other = false
 
 -- a value was read that is neither a list nor an object
 pub record Single (depth : ℕ) (old new : List Token) (word : Option ℤ) (given : GivenValue) : Type 0 where
@@ -34,11 +27,6 @@ pub record Single (depth : ℕ) (old new : List Token) (word : Option ℤ) (give
 
 pub plain_read : (depth : ℕ) (t : Token) (old ts : List Token) → is_plain t ≡ true → old ≡ t ∷ ts
     → Single depth old ts None another
-plain_read depth Token.begin_object old ts plain is = absurd (false≢true plain)
-plain_read depth Token.end_object old ts plain is = absurd (false≢true plain)
-plain_read depth Token.begin_array old ts plain is = absurd (false≢true plain)
-plain_read depth Token.end_array old ts plain is = absurd (false≢true plain)
-plain_read depth (Token.key s) old ts plain is = absurd (false≢true plain)
 plain_read depth (Token.string s) old ts plain is = record {
   data_is = string s;
   was_read = ap (converted of_json) (ap (value depth) is ∙ value_is depth _);
@@ -46,7 +34,6 @@ plain_read depth (Token.string s) old ts plain is = record {
   gives = refl;
   no_members_in = refl;
 }
-plain_read depth (Token.number s) old ts plain is = absurd (false≢true plain)
 plain_read depth (Token.boolean b) old ts plain is = record {
   data_is = boolean b;
   was_read = ap (converted of_json) (ap (value depth) is ∙ value_is depth _);
@@ -61,7 +48,7 @@ plain_read depth Token.null old ts plain is = record {
   gives = refl;
   no_members_in = refl;
 }
-plain_read depth Token.bad old ts plain is = absurd (false≢true plain)
+plain_read depth other old ts plain is = absurd (false≢true plain)
 
 abbrev read_as : List Token → Option Num → Option (Data × List Token)
 read_as ts found = option_map (λ d. (d, ts)) (option_map number found)
@@ -122,29 +109,19 @@ no_token depth old is = ap (converted of_json) (ap (value depth) is ∙ value_is
 
 -- a token with which no value begins
 abbrev pub is_misplaced : Token → Bool
-is_misplaced Token.begin_object = false
 is_misplaced Token.end_object = true
-is_misplaced Token.begin_array = false
 is_misplaced Token.end_array = true
 is_misplaced (Token.key s) = true
-is_misplaced (Token.string s) = false
-is_misplaced (Token.number s) = false
-is_misplaced (Token.boolean b) = false
-is_misplaced Token.null = false
 is_misplaced Token.bad = true
+is_misplaced other = false
 
 nothing_read : (depth : ℕ) (t : Token) (ts : List Token) → is_misplaced t ≡ true
     → converted of_json (value depth (t ∷ ts)) ≡ None
-nothing_read depth Token.begin_object ts is = absurd (false≢true is)
 nothing_read depth Token.end_object ts is = ap (converted of_json) (value_is depth _)
-nothing_read depth Token.begin_array ts is = absurd (false≢true is)
 nothing_read depth Token.end_array ts is = ap (converted of_json) (value_is depth _)
 nothing_read depth (Token.key s) ts is = ap (converted of_json) (value_is depth _)
-nothing_read depth (Token.string s) ts is = absurd (false≢true is)
-nothing_read depth (Token.number s) ts is = absurd (false≢true is)
-nothing_read depth (Token.boolean b) ts is = absurd (false≢true is)
-nothing_read depth Token.null ts is = absurd (false≢true is)
 nothing_read depth Token.bad ts is = ap (converted of_json) (value_is depth _)
+nothing_read depth other ts is = absurd (false≢true is)
 
 pub misplaced : (depth : ℕ) (t : Token) (old ts : List Token) → is_misplaced t ≡ true → old ≡ t ∷ ts
     → converted of_json (value depth old) ≡ None

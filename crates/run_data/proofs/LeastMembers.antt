@@ -18,8 +18,7 @@ use Rattle.gr_word.specs.declared.variables.Want.{Want}
 use Rattle.run_data.specs.declared.errors.InputError.{InputError}
 use Rattle.run_data.specs.declared.errors.InputError.TheVariants.{UnknownName}
 use Rattle.run_data.specs.declared.members.Given.{Given}
-use Rattle.run_data.specs.InputsOf.{or_else}
-use Rattle.run_data.specs.Given.{GivenValue, given_of, given_view, given_members, least_given, entries_view, given_value_fault, given_named_fault, first_given_fault}
+use Rattle.run_data.specs.Prelude.{or_else, GivenValue, given_of, given_view, given_members, least_given, entries_view, given_value_fault, given_named_fault, first_given_fault}
 use Rattle.run_data.proofs.Fits.{or_else-none}
 use Rattle.run_data.proofs.Given.{put_given, put_kept, insert_kept}
 

@@ -11,7 +11,7 @@ use Rattle.serde_json.specs.Written.{compact_text}
 use Rattle.gr_base.proofs.Permuted.{EachTwo}
 use Rattle.gr_base.proofs.Orderless.{IsCongruence, same_permuted}
 use Rattle.gr_word.specs.declared.variables.Want.{Want}
-use Rattle.run_data.specs.OutputText.{shown, member_placed, members_with, output_of}
+use Rattle.run_data.specs.Prelude.{shown, member_placed, members_with, output_of}
 
 abbrev order : List ℕ → List ℕ → Ordering
 order = slice_cmp nat_cmp

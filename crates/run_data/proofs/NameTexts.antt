@@ -8,7 +8,7 @@ use Rattle.std.proofs.lemmas.Bool.Decides.{nat_tests}
 use Rattle.std.proofs.lemmas.Str.{IsUtf8-from_ascii}
 use Rattle.std.proofs.lemmas.Str.Ascii.{IsAscii-nil, IsAscii-cons}
 use Rattle.json.specs.Print.{escape_byte}
-use Rattle.gr_word.specs.Names.{is_name, is_name_byte}
+use Rattle.gr_word.specs.Prelude.{is_name, is_name_byte}
 
 -- a byte of a name is itself in a JSON text
 record Plain (byte : ℕ) : Type 0 where

@@ -11,7 +11,7 @@ use Rattle.std.proofs.lemmas.List.Elements.{All-cons}
 use Rattle.std.proofs.lemmas.Str.{IsUtf8-from_ascii}
 use Rattle.std.proofs.lemmas.Str.Parse.{digit_at, tells_digits, numerals_by_value}
 use Rattle.std.specs.Str.Parse.{AllDigits}
-use Rattle.gr_word.specs.Words.{IsWord}
+use Rattle.gr_word.specs.Prelude.{IsWord}
 
 -- the magnitude that the lemmas on signed texts ask for
 pub mag-word : (z : ℤ) → IsWord z → mag z < 2 ^ 63

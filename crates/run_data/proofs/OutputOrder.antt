@@ -8,7 +8,7 @@ use Rattle.std.proofs.lemmas.Cmp.{nat_list_cmp_total}
 use Rattle.std.proofs.lemmas.Map.Lookups.{exact_bytes}
 use Rattle.serde_json.specs.Data.{Data, Members, no_members, member}
 use Rattle.gr_word.specs.declared.variables.Want.{Want}
-use Rattle.run_data.specs.OutputText.{AreInOrder, members_with, names_of, member_placed, shown}
+use Rattle.run_data.specs.Prelude.{AreInOrder, members_with, names_of, member_placed, shown}
 
 abbrev Above : List ℕ → List (List ℕ) → Type 0
 Above low names = AllByRecursion (λ name. slice_cmp nat_cmp low name ≡ Less) names

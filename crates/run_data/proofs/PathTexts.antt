@@ -1,7 +1,7 @@
 -- The lines of levels after a text.
 use Rattle.std.proofs.Common.{◌≡◌, ℕ, ◌+◌, List, [], ◌∷◌, ◌++◌, length, Option, sym, ap, ◌∙◌, arith, append_assoc}
 use Rattle.std.proofs.lemmas.List.{append-nil}
-use Rattle.run_data.specs.PathText.{levels_behind, levels_line}
+use Rattle.run_data.specs.Prelude.{levels_behind, levels_line}
 
 -- levels are appended to the text so far
 pub behind-text : (text : List ℕ) (b : ℕ) (levels : List (List (Option ℕ)))

@@ -3,12 +3,10 @@ use Rattle.std.proofs.Common.{◌≡◌, ◌≤◌, ◌<◌, ◌-◌, ◌^◌, �
 use Rattle.std.proofs.lemmas.List.{take-append-drop}
 use Rattle.std.proofs.lemmas.Grind.{flat_map-append}
 use Rattle.std.specs.Fmt.{signed_decimal}
-use Rattle.gr_base.specs.Counts.{Rose}
-use Rattle.gr_base.specs.Added.{Adds, AddsLess}
+use Rattle.gr_base.specs.Prelude.{Rose, Adds, AddsLess}
 use Rattle.gr_base.proofs.Added.{Adds-then, AddsLess-then, AddsLess-more}
 use Rattle.gr_outside.specs.declared.sink.SinkFailed.{SinkFailed}
-use Rattle.run_data.specs.Putting.{PutsText}
-use Rattle.run_data.specs.TraceText.{words_text}
+use Rattle.run_data.specs.Prelude.{PutsText, words_text}
 
 -- a piece that breaks off leaves less than the text
 pub cut_within : (old middle new : Option (List ℕ)) (done piece more text : List ℕ) → Adds old middle done

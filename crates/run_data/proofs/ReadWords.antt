@@ -6,20 +6,19 @@ use Rattle.std.specs.Cmp.Lexicographic.{slice_cmp}
 use Rattle.std.specs.Str.{is_utf8}
 use Rattle.std.proofs.lemmas.Bool.{ltb-true, leb-true}
 use Rattle.std.proofs.lemmas.List.Elements.{All-map, All-replicate}
-use Rattle.json.specs.Json as json
 use Rattle.json.specs.Lex.{tokens}
 use Rattle.serde_json.specs.Data.{Num, unsigned, negative, float, Data, null, boolean, number, string, array, object, Items, no_items, item, Members, no_members, member, put}
 use Rattle.serde_json.specs.Find.{as_i64, as_object, get_member}
 use Rattle.serde_json.specs.Read.{max_depth, number_of, of_json, of_items, of_members, read}
-use Rattle.gr_word.specs.Words.{IsWord}
-use Rattle.gr_word.specs.Fitting.{AreWords, AreVariables, FitsWants}
+use Rattle.gr_word.specs.Prelude.{IsWord, AreWords, AreVariables, FitsWants}
 use Rattle.gr_word.specs.declared.variables.Want.{Want}
 use Rattle.gr_word.specs.declared.variables.Shape.{Shape}
 use Rattle.gr_word.specs.declared.variables.Shape.TheVariants.{Scalar, Array}
 use Rattle.run_data.specs.declared.errors.InputError.{InputError}
 use Rattle.run_data.specs.declared.errors.InputError.TheVariants.{BadJson, NotAnObject}
-use Rattle.run_data.specs.InputsOf.{json_of, word_of, list_of, listed_values, first_input_fault, words_listed, words_given, unless_fault, inputs_of}
+use Rattle.run_data.specs.Prelude.{json_of, word_of, list_of, listed_values, first_input_fault, words_listed, words_given, unless_fault, inputs_of}
 use Rattle.run_data.proofs.Fits.{given_fits}
+use Rattle.json.specs.Json as json
 
 -- a number is a word where it is an integer of 64 bits
 abbrev Fits : Num → Type 0

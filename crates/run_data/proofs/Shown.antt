@@ -4,12 +4,10 @@ use Rattle.std.specs.Ordering.{match_ordering}
 use Rattle.std.specs.BTreeMap.{insert_entry}
 use Rattle.serde_json.specs.Data.{Members}
 use Rattle.gr_base.proofs.NameMaps.{key_cmp}
-use Rattle.gr_word.specs.Names.{is_name}
+use Rattle.gr_word.specs.Prelude.{is_name, FitsWants}
 use Rattle.gr_word.specs.declared.variables.Want.{Want}
 use Rattle.gr_word.specs.declared.variables.Shape.{Shape}
-use Rattle.gr_word.specs.Fitting.{FitsWants}
-use Rattle.run_data.specs.OutputText.{shown, member_placed, members_with}
-use Rattle.run_data.specs.OutputMembers.{members_seen, HaveNames}
+use Rattle.run_data.specs.Prelude.{shown, member_placed, members_with, members_seen, HaveNames}
 
 abbrev pub Entry : Type 0
 Entry = Bor (List ℕ) × (Shape × Bor (List ℤ))

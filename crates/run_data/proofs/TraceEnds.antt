@@ -5,10 +5,8 @@ use Rattle.std.proofs.lemmas.Bool.{cases_lt, eqb-true, eqb-false, false≢true}
 use Rattle.std.proofs.lemmas.List.{append-nil, take_more, take_all, length-take-le, get_or-take, take-append-drop, nil_from_length}
 use Rattle.std.proofs.lemmas.Slice.Eq.{bytes_eq-Decides}
 use Rattle.std.proofs.Math.Seq.{take-length, take-append_seam, get_or-append_seam}
-use Rattle.lt_isa.specs.Trace.{Stamped}
-use Rattle.run_data.specs.TraceText.{ending_text}
-use Rattle.run_data.specs.TraceGrammar.{AreEvents, SpellsTrace, TraceBegins, BreaksAt, trace_lines, front_parts}
-use Rattle.run_data.specs.TracePieces.{RunStops, break_of}
+use Rattle.lt_isa.specs.Prelude.{Stamped}
+use Rattle.run_data.specs.Prelude.{ending_text, AreEvents, SpellsTrace, TraceBegins, BreaksAt, trace_lines, front_parts, RunStops, break_of}
 use Rattle.run_data.proofs.TraceParts.{no_end, split-text, text-from_parts}
 use Rattle.run_data.proofs.TraceSteps.{ended, next-line}
 

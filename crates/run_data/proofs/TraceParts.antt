@@ -7,10 +7,8 @@ use Rattle.std.proofs.lemmas.Fmt.{digits_decimal}
 use Rattle.std.proofs.lemmas.Str.Parse.{digit_at, tells_digits, numerals_by_value}
 use Rattle.std.proofs.lemmas.List.{append-nil}
 use Rattle.std.proofs.lemmas.List.Elements.{All-cons}
-use Rattle.lt_isa.specs.Machine.{Observed, RamRead, RamWrite, EncRead, EncWrite, Oram, Halted}
-use Rattle.lt_isa.specs.Trace.{Stamped}
-use Rattle.run_data.specs.TraceText.{line_of, ending_text, event_line, trace_text_of}
-use Rattle.run_data.specs.TraceGrammar.{LineFits, GoesOn, AreEvents, trace_lines}
+use Rattle.lt_isa.specs.Prelude.{Observed, RamRead, RamWrite, EncRead, EncWrite, Oram, Halted, Stamped}
+use Rattle.run_data.specs.Prelude.{line_of, ending_text, event_line, trace_text_of, LineFits, GoesOn, AreEvents, trace_lines}
 use Rattle.run_data.proofs.NameTexts.{and_first}
 use Rattle.run_data.proofs.Numerals.{Without}
 use Rattle.run_data.proofs.Splits.{NoneHas, split-join, joined, join-ended}
@@ -35,11 +33,7 @@ text-joined (s ∷ events) halted =
 pub GoesOn-cases : (e : Observed) (events : List Stamped) (halted : Bool) (others : Type 0)
     → GoesOn e events halted others → others ⊎ ((events ≡ []) × (halted ≡ true))
 GoesOn-cases Halted events halted others goes = inr goes
-GoesOn-cases (RamRead block words) events halted others goes = inl goes
-GoesOn-cases (RamWrite block words) events halted others goes = inl goes
-GoesOn-cases (EncRead block) events halted others goes = inl goes
-GoesOn-cases (EncWrite block) events halted others goes = inl goes
-GoesOn-cases (Oram bank) events halted others goes = inl goes
+GoesOn-cases other events halted others goes = inl goes
 
 -- no line has a line feed
 not_true : (b : Bool) → not b ≡ true → b ≡ false

@@ -6,15 +6,10 @@ use Rattle.std.proofs.lemmas.Fmt.{decimal_injective}
 use Rattle.std.proofs.lemmas.List.{get_or-map, length-map, map-append, take_more}
 use Rattle.std.proofs.lemmas.List.Elements.{All-append, All-cons}
 use Rattle.std.proofs.lemmas.Slice.Eq.{bytes_eq-Decides}
-use Rattle.gr_word.specs.Fitting.{AreWords}
-use Rattle.gr_word.specs.Words.{IsWord}
-use Rattle.lt_isa.specs.Machine.{Observed, Oram, Halted}
-use Rattle.lt_isa.specs.Trace.{Stamped}
+use Rattle.gr_word.specs.Prelude.{AreWords, IsWord}
+use Rattle.lt_isa.specs.Prelude.{Observed, Oram, Halted, Stamped}
 use Rattle.run_data.specs.declared.trace_files.TraceLine.{TraceLine}
-use Rattle.run_data.specs.TraceText.{line_of}
-use Rattle.run_data.specs.TraceGrammar.{EventFits, LineFits}
-use Rattle.run_data.specs.TraceFiles.{observed_in, stamped_in}
-use Rattle.run_data.specs.TracePieces.{contents, event_pieces, PiecesFound, LineFound}
+use Rattle.run_data.specs.Prelude.{line_of, EventFits, LineFits, observed_in, stamped_in, contents, event_pieces, PiecesFound, LineFound}
 use Rattle.run_data.proofs.TraceSpelling.{split-line, line-from_pieces, same-line}
 
 -- a bank that isn't oblivious

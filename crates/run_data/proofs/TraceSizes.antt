@@ -6,11 +6,8 @@ use Rattle.std.proofs.lemmas.List.{get_or-take}
 use Rattle.std.proofs.lemmas.List.Splits.{length-slice_split}
 use Rattle.std.proofs.lemmas.List.Sums.{count_by-le-length}
 use Rattle.std.proofs.lemmas.Slice.Eq.{bytes_eq-Decides}
-use Rattle.lt_isa.specs.Machine.{Observed}
-use Rattle.lt_isa.specs.Trace.{Stamped}
-use Rattle.run_data.specs.TraceText.{line_of, ending_text, event_text}
-use Rattle.run_data.specs.TraceGrammar.{front_parts}
-use Rattle.run_data.specs.TracePieces.{AreRead, RunStops, break_of}
+use Rattle.lt_isa.specs.Prelude.{Observed, Stamped}
+use Rattle.run_data.specs.Prelude.{line_of, ending_text, event_text, front_parts, AreRead, RunStops, break_of}
 use Rattle.run_data.proofs.TraceEnds.{broken-if, length-front, front-at}
 
 length-onto_first : (byte : ℕ) (parts : List (List ℕ))

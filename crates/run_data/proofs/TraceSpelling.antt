@@ -6,12 +6,9 @@ use Rattle.std.proofs.lemmas.Bool.{ne_eqb}
 use Rattle.std.proofs.lemmas.Fmt.{decimal_injective, signed_decimal_injective}
 use Rattle.std.proofs.lemmas.List.{append-nil}
 use Rattle.std.proofs.lemmas.List.Elements.{All-cons}
-use Rattle.gr_word.specs.Fitting.{AreWords}
-use Rattle.lt_isa.specs.Machine.{Observed, RamRead, RamWrite, EncRead, EncWrite, Oram, Halted}
-use Rattle.lt_isa.specs.Trace.{Stamped, seen_at}
-use Rattle.run_data.specs.TraceText.{words_text, line_of}
-use Rattle.run_data.specs.TraceGrammar.{EventFits, LineFits}
-use Rattle.run_data.specs.TracePieces.{event_pieces, line_pieces}
+use Rattle.gr_word.specs.Prelude.{AreWords}
+use Rattle.lt_isa.specs.Prelude.{Observed, RamRead, RamWrite, EncRead, EncWrite, Oram, Halted, Stamped, seen_at}
+use Rattle.run_data.specs.Prelude.{words_text, line_of, EventFits, LineFits, event_pieces, line_pieces}
 use Rattle.run_data.proofs.Numerals.{Without, Without-decimal, Without-signed, mag-word}
 use Rattle.run_data.proofs.Splits.{NoneHas, split-join, joined, Without-join}
 
@@ -25,10 +22,7 @@ line-joined_at : (stamp : ℕ) (event : Observed)
     → join_with_byte 32 (decimal stamp ∷ event_pieces event) ≡ line_of stamp event
 line-joined_at stamp (RamRead block words) = rw (join-words (decimal block) words) (simp append_assoc)
 line-joined_at stamp (RamWrite block words) = rw (join-words (decimal block) words) (simp append_assoc)
-line-joined_at stamp (EncRead block) = simp append_assoc
-line-joined_at stamp (EncWrite block) = simp append_assoc
-line-joined_at stamp (Oram bank) = simp append_assoc
-line-joined_at stamp Halted = simp append_assoc
+line-joined_at stamp other = simp append_assoc
 
 pub line-joined : (s : Stamped) → join_with_byte 32 (line_pieces s) ≡ line_of s.stamp s.event
 line-joined s = line-joined_at s.stamp s.event

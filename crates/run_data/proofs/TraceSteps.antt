@@ -1,11 +1,8 @@
 -- Lines of a trace that are read one after another.
 use Rattle.std.proofs.Common.{◌≡◌, ℕ, ◌+◌, ◌≤◌, Bool, true, false, ◌⊎◌, inl, inr, List, [], ◌∷◌, ◌++◌, map, refl, sym, ap, ◌∙◌, subst, append_assoc}
 use Rattle.std.proofs.lemmas.List.{append-nil, map-append}
-use Rattle.lt_isa.specs.Machine.{Observed, RamRead, RamWrite, EncRead, EncWrite, Oram, Halted}
-use Rattle.lt_isa.specs.Trace.{Stamped}
-use Rattle.run_data.specs.TraceText.{line_of, ending_text}
-use Rattle.run_data.specs.TraceGrammar.{LineFits, GoesOn, AreEvents, trace_lines}
-use Rattle.run_data.specs.TracePieces.{is_halt, MayFollow, AreRead}
+use Rattle.lt_isa.specs.Prelude.{Observed, RamRead, RamWrite, EncRead, EncWrite, Oram, Halted, Stamped}
+use Rattle.run_data.specs.Prelude.{line_of, ending_text, LineFits, GoesOn, AreEvents, trace_lines, is_halt, MayFollow, AreRead}
 use Rattle.run_data.proofs.TraceSpelling.{same-line}
 use Rattle.run_data.proofs.TraceParts.{no_end}
 

@@ -2,9 +2,8 @@
 use Rattle.std.proofs.Common.{◌≡◌, ℕ, ◌+◌, Bool, true, false, eqb, ⊎_elim, List, [], ◌∷◌, ◌++◌, length, refl, sym, ap, ◌∙◌, subst, arith}
 use Rattle.std.specs.List.{slice_split}
 use Rattle.std.proofs.lemmas.List.{append_cancel_right}
-use Rattle.lt_isa.specs.Trace.{Stamped}
-use Rattle.run_data.specs.TraceText.{line_of, ending_text}
-use Rattle.run_data.specs.TraceGrammar.{LineFits, AreEvents, SpellsTrace, trace_lines}
+use Rattle.lt_isa.specs.Prelude.{Stamped}
+use Rattle.run_data.specs.Prelude.{line_of, ending_text, LineFits, AreEvents, SpellsTrace, trace_lines}
 use Rattle.run_data.proofs.TraceSpelling.{same-line}
 use Rattle.run_data.proofs.TraceParts.{GoesOn-cases, split-text, no_end}
 

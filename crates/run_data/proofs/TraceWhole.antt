@@ -3,13 +3,10 @@ use Rattle.std.proofs.Common.{◌≡◌, ℕ, ◌+◌, ◌-◌, ◌<◌, ◌≤�
 use Rattle.std.specs.List.{slice_split, take-map}
 use Rattle.std.proofs.lemmas.List.{length-map, map-append, take_more, get_or-map}
 use Rattle.std.proofs.lemmas.List.Splits.{length-slice_split}
-use Rattle.lt_isa.specs.Trace.{Stamped}
+use Rattle.lt_isa.specs.Prelude.{Stamped}
 use Rattle.run_data.specs.declared.trace_files.TraceFile.{TraceFile}
 use Rattle.run_data.specs.declared.trace_files.TraceLine.{TraceLine}
-use Rattle.run_data.specs.TraceText.{line_of}
-use Rattle.run_data.specs.TraceGrammar.{front_parts, LineFits}
-use Rattle.run_data.specs.TraceFiles.{file_events, stamped_in, observed_in}
-use Rattle.run_data.specs.TracePieces.{contents, is_halt, AreRead, RunStops, break_of}
+use Rattle.run_data.specs.Prelude.{line_of, front_parts, LineFits, file_events, stamped_in, observed_in, contents, is_halt, AreRead, RunStops, break_of}
 use Rattle.run_data.proofs.TraceSteps.{AreRead-more}
 
 pub record Reading (size : ℕ) (text : List ℕ) (parts : List (List ℕ)) (events : List Stamped)

@@ -13,8 +13,8 @@ use Rattle.gr_word.specs.declared.variables.Shape.TheVariants.{Scalar, Array}
 use Rattle.run_data.specs.declared.errors.InputError.{InputError}
 use Rattle.run_data.specs.declared.errors.InputError.TheVariants.{UnknownName, WrongShape, WrongLength, NotAWord}
 use Rattle.run_data.specs.declared.members.Given.{Given}
-use Rattle.run_data.specs.declared.members.Given.TheVariants as given
 use Rattle.run_data.specs.InputsOf.{list_of, is_word, words_listed, has_length, or_else}
+use Rattle.run_data.specs.declared.members.Given.TheVariants as given
 
 pub data GivenValue : Type 0 where
   a_number : Option ℤ → GivenValue

@@ -15,3 +15,4 @@ pub use Rattle.gr_base.specs.Added
 pub use Rattle.lt_isa.specs.Machine
 pub use Rattle.lt_isa.specs.Trace
 pub use Rattle.lt_isa.specs.Events
+pub mod Prelude

@@ -3,12 +3,12 @@ use Rattle.std.specs.Prelude.{◌≡◌, ℕ, Bool, List, map, Result, Ok, Err}
 use Rattle.lt_isa.specs.Machine.{Observed, RamRead, RamWrite, EncRead, EncWrite, Oram, Halted}
 use Rattle.lt_isa.specs.Trace.{Stamped, seen_at}
 use Rattle.run_data.specs.declared.trace_files.SeenEvent.{SeenEvent}
-use Rattle.run_data.specs.declared.trace_files.SeenEvent.TheVariants as seen
 use Rattle.run_data.specs.declared.trace_files.TraceLine.{TraceLine}
 use Rattle.run_data.specs.declared.trace_files.TraceFile.{TraceFile}
 use Rattle.run_data.specs.declared.trace_files.TraceError.{TraceError}
 use Rattle.run_data.specs.declared.trace_files.TraceError.TheVariants.{BadLine, Memory}
 use Rattle.run_data.specs.TraceGrammar.{BreaksAt}
+use Rattle.run_data.specs.declared.trace_files.SeenEvent.TheVariants as seen
 
 abbrev pub observed_in : SeenEvent → Observed
 observed_in (seen.RamRead block words) = RamRead block words

@@ -22,11 +22,7 @@ LineFits size s = (s.stamp < 2 ^ 32) × EventFits size s.event
 -- what follows an event: nothing after a halt, and the trace halted; other events after any other
 abbrev pub GoesOn : Observed → List Stamped → Bool → Type 0 → Type 0
 GoesOn Halted events halted others = (events ≡ []) × (halted ≡ true)
-GoesOn (RamRead block words) events halted others = others
-GoesOn (RamWrite block words) events halted others = others
-GoesOn (EncRead block) events halted others = others
-GoesOn (EncWrite block) events halted others = others
-GoesOn (Oram bank) events halted others = others
+GoesOn other events halted others = others
 
 -- The events of a trace, whose stamps rise from a least one on. It halted if the last event is a halt; no other event
 -- is one.

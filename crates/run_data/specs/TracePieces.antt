@@ -70,11 +70,7 @@ pub record AreRead (size : ℕ) (lines : List (List ℕ)) (events : List Stamped
 
 abbrev pub is_halt : Observed → Bool
 is_halt Halted = true
-is_halt (RamRead block words) = false
-is_halt (RamWrite block words) = false
-is_halt (EncRead block) = false
-is_halt (EncWrite block) = false
-is_halt (Oram bank) = false
+is_halt other = false
 
 -- The lines of a text were read as events as far as they begin a trace with its last line left out.
 pub record RunStops (size : ℕ) (lines : List (List ℕ)) (events : List Stamped) (halts : Bool) : Type 0 where

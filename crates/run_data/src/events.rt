@@ -1,7 +1,6 @@
 ghost use Rattle.std.specs.Prelude.{◌≡◌, ◌≤◌, ◌+◌, ◌-◌, ◌*◌, ◌^◌, [], ◌∷◌, ◌++◌, length, drop, codes, decimal, OnOk, OnErr};
-ghost use Rattle.gr_base.specs.Counts.{Rose};
-ghost use Rattle.gr_base.specs.Added.{Adds, AddsLess};
-ghost use Rattle.lt_isa.specs.Events.{observed_of};
+ghost use Rattle.gr_base.specs.Prelude.{Rose, Adds, AddsLess};
+ghost use Rattle.lt_isa.specs.Prelude.{observed_of};
 ghost use Rattle.run_data.specs.Putting.{PutsText};
 ghost use Rattle.run_data.specs.TraceText.{event_line, words_text};
 

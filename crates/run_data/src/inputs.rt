@@ -1,18 +1,9 @@
 ghost use Rattle.std.specs.Prelude.{◌≡◌, ◌≢◌, ◌≤◌, [], ◌∷◌, All, IfOk, IfErr, OnOk, None, Some, Ok, Err, length, map, replicate, unwrap_or, pos};
 ghost use Rattle.std.specs.BTreeMap.{btree_map_len};
 ghost use Rattle.std.specs.Option.{option_map_or};
-ghost use Rattle.gr_word.specs.Fitting.{AreDistinct, AreVariables, AreWords, FitsWants};
-ghost use Rattle.gr_word.specs.Words.{IsWord};
+ghost use Rattle.gr_word.specs.Prelude.{AreDistinct, AreVariables, AreWords, FitsWants, IsWord};
 ghost use Rattle.run_data.specs.InputsOf.{json_of, inputs_of};
-ghost use Rattle.run_data.specs.Given.{
-  given_view,
-  given_values,
-  entries_view,
-  given_value_fault,
-  given_named_fault,
-  first_given_fault,
-  given_words,
-};
+ghost use Rattle.run_data.specs.Given.{given_view, given_values, entries_view, given_value_fault, given_named_fault, first_given_fault, given_words};
 
 use crate::errors::InputError;
 use crate::members::{Given, GivenMembers, Unread, read_text};

@@ -1,7 +1,7 @@
 ghost use Rattle.std.specs.Prelude.{◌≡◌, ℕ, ℤ, ◌^◌, ◌<◌, ◌≤◌, Bool, List, length};
 ghost use Rattle.serde_json.specs.Data.{no_members};
 ghost use Rattle.gr_word.specs.declared.variables.Want.{Want};
-ghost use Rattle.lt_isa.specs.Trace.{Stamped};
+ghost use Rattle.lt_isa.specs.Prelude.{Stamped};
 ghost use Rattle.run_data.specs.OutputText.{AreInOrder, members_with};
 ghost use Rattle.run_data.specs.TraceText.{trace_text_of};
 ghost use Rattle.run_data.specs.TraceGrammar.{AreEvents, SpellsTrace};

@@ -1,6 +1,6 @@
 ghost use Rattle.std.specs.Prelude.{◌≡◌, ◌≢◌, ℕ, ℤ, ◌^◌, ◌<◌, decimal, IfSome, IfNone};
 ghost use Rattle.std.specs.Fmt.{signed_decimal};
-ghost use Rattle.gr_word.specs.Words.{IsWord};
+ghost use Rattle.gr_word.specs.Prelude.{IsWord};
 
 use gr_base::numerals::numeral_up_to;
 use itoa::Buffer;

@@ -2,8 +2,7 @@ ghost use Rattle.std.specs.Prelude.{◌≡◌, [], ◌∷◌, ◌++◌, IsTrue, 
 ghost use Rattle.json.specs.Print.{quoted};
 ghost use Rattle.serde_json.specs.Data.{array, no_members, object};
 ghost use Rattle.serde_json.specs.Written.{compact_text};
-ghost use Rattle.gr_word.specs.Fitting.{FitsWants};
-ghost use Rattle.gr_word.specs.Names.{is_name};
+ghost use Rattle.gr_word.specs.Prelude.{FitsWants, is_name};
 ghost use Rattle.run_data.specs.OutputText.{word_value, word_items, shown, members_with, output_of};
 ghost use Rattle.run_data.specs.OutputMembers.{members_seen, HaveNames};
 

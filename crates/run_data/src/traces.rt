@@ -1,5 +1,5 @@
 ghost use Rattle.std.specs.Prelude.{◌≡◌, ℕ, ◌+◌, ◌^◌, ◌<◌, ◌≤◌, Bool, List, [], ◌++◌, length, map, codes, decimal, IfOk, IfErr, OnOk};
-ghost use Rattle.lt_isa.specs.Trace.{Stamped};
+ghost use Rattle.lt_isa.specs.Prelude.{Stamped};
 ghost use Rattle.run_data.specs.TraceText.{words_text, event_line, ending_text, trace_text_of};
 ghost use Rattle.run_data.specs.TraceGrammar.{SpellsTrace};
 ghost use Rattle.run_data.specs.TraceFiles.{observed_in, file_events, Breaks, IsReadAs};

@@ -3,12 +3,9 @@ use Rattle.std.proofs.Common.{◌≡◌, ℕ, ◌<◌, ◌≤◌, Option, None, 
 use Rattle.std.proofs.lemmas.Bool.{cases_lt}
 use Rattle.std.proofs.lemmas.List.{get_or-replicate, get_or_past, length-replicate}
 use Rattle.src_tree.specs.declared.trees.Decl.{Decl}
-use Rattle.src_tree.specs.Meaning.{Store, Left, words_of_number}
-use Rattle.src_tree.specs.Trees.{Statement, Block}
+use Rattle.src_tree.specs.Prelude.{Store, Left, words_of_number, Statement, Block}
 use Rattle.scalar_ranges.specs.declared.ranges.Range.{Range}
-use Rattle.scalar_ranges.specs.Ranges.{Ranges, range_at, AreWithin}
-use Rattle.scalar_ranges.specs.Known.{nothing_known, after_statement, inside}
-use Rattle.scalar_ranges.specs.Comes.{Comes, First, Later, InFirst, InSecond, InLoop}
+use Rattle.scalar_ranges.specs.Prelude.{Ranges, range_at, AreWithin, nothing_known, after_statement, inside, Comes, First, Later, InFirst, InSecond, InLoop}
 use Rattle.scalar_ranges.proofs.Results.{no-range}
 use Rattle.scalar_ranges.proofs.Passing.{statement-within}
 use Rattle.scalar_ranges.proofs.Counting.{inside-within}

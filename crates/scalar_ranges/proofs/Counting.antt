@@ -2,16 +2,13 @@
 use Rattle.std.proofs.Common.{◌≡◌, ℕ, ◌-◌, ◌<◌, ◌≤◌, Bool, true, false, cond, ℤ, pos, Option, Some, None, List, refl, sym, ap, ◌∙◌, subst, arith}
 use Rattle.std.specs.Prelude.{nat_le}
 use Rattle.std.proofs.lemmas.Bool.{ltb-true, leb-true}
-use Rattle.gr_word.specs.Words.{compared}
+use Rattle.gr_word.specs.Prelude.{compared}
 use Rattle.gr_word.specs.declared.operations.Cmp.{Cmp}
 use Rattle.gr_word.specs.declared.operations.Cmp.TheVariants.{Eq, Ne, Lt, Le, Gt, Ge}
 use Rattle.src_tree.specs.declared.trees.Decl.{Decl}
-use Rattle.src_tree.specs.Meaning.{Store, Left, evaluated, variable_number, scalar, guard_holds}
-use Rattle.src_tree.specs.Trees.{Tree, Number, Variable, Element, Operation, Test, Block}
+use Rattle.src_tree.specs.Prelude.{Store, Left, evaluated, variable_number, scalar, guard_holds, Tree, Number, Variable, Element, Operation, Test, Block}
 use Rattle.scalar_ranges.specs.declared.ranges.Range.{Range}
-use Rattle.scalar_ranges.specs.Ranges.{Ranges, range_at, IsIn, AreWithin}
-use Rattle.scalar_ranges.specs.Known.{range_of, with_range, forgotten_block, after_block, counted_by, counted, keeps_least, inside_by, inside_of, inside}
-use Rattle.scalar_ranges.specs.Comes.{Enters, Returns, AtOnce, Again}
+use Rattle.scalar_ranges.specs.Prelude.{Ranges, range_at, IsIn, AreWithin, range_of, with_range, forgotten_block, after_block, counted_by, counted, keeps_least, inside_by, inside_of, inside, Enters, Returns, AtOnce, Again}
 use Rattle.scalar_ranges.proofs.Results.{no-range, from-is, from-in}
 use Rattle.scalar_ranges.proofs.Values.{range-in}
 use Rattle.scalar_ranges.proofs.Writing.{set-within}
@@ -21,10 +18,6 @@ use Rattle.scalar_ranges.proofs.Passing.{block-within}
 -- a scalar that isn't below a least and passes the comparison with a word in a range
 counted-in : (cmp : Cmp) (start bound guess : Range) (y z : ℤ) (n : ℕ) → y ≡ pos n → start.least ≤ n → IsIn bound z
     → compared cmp y z ≡ true → counted_by cmp start bound ≡ Some guess → IsIn guess y
-counted-in Eq start bound guess y z n is least other holds e = no-range guess e
-counted-in Ne start bound guess y z n is least other holds e = no-range guess e
-counted-in Gt start bound guess y z n is least other holds e = no-range guess e
-counted-in Ge start bound guess y z n is least other holds e = no-range guess e
 counted-in Lt start bound guess y z n is least other holds e =
     let below : n < other.number = ltb-true n other.number
     (ap (λ u. compared Lt (pos n) u) (sym other.is) ∙ ap (λ u. compared Lt u z) (sym is) ∙ holds) in
@@ -37,6 +30,7 @@ counted-in Le start bound guess y z n is least other holds e =
     let most = other.most in
     from-in start.least bound.most guess n y (from-is start.least bound.most guess e) is least
     (omega (arith, below, most))
+counted-in rest start bound guess y z n is least other holds e = no-range guess e
 
 module _ (decls : List Decl) (known : Ranges) (t : Test) (a : Block) where
   abbrev Forgotten : Ranges
@@ -156,11 +150,9 @@ module _ (decls : List Decl) (known : Ranges) (t : Test) (a : Block) where
         by-count x start bound left begins bounded (counted_by t.cmp start bound) refl
 
     by-left : (e : Tree) → t.left ≡ e → AreWithin (inside_of decls known t a e) inner.store
-    by-left (Number z) left = otherwise
     by-left (Variable x) left =
         by-start x left (range_at known (variable_number decls x)) (range_of decls Forgotten t.right) refl refl
-    by-left (Element x i) left = otherwise
-    by-left (Operation op u v) left = otherwise
+    by-left other left = otherwise
 
     pub inside-within : AreWithin (inside decls known t a) inner.store
     inside-within = by-left t.left refl

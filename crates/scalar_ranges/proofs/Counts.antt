@@ -1,12 +1,10 @@
 -- At each statement there are as many ranges as before the program.
-use Rattle.std.proofs.Common.{◌≡◌, ℕ, Bool, true, false, cond, Option, Some, None, List, length, refl, ◌∙◌}
+use Rattle.std.proofs.Common.{◌≡◌, ℕ, Bool, true, false, cond, Option, Some, None, List, length, ◌∙◌}
 use Rattle.std.proofs.lemmas.List.{length-set}
 use Rattle.src_tree.specs.declared.trees.Decl.{Decl}
-use Rattle.src_tree.specs.Meaning.{variable_number}
-use Rattle.src_tree.specs.Trees.{Tree, Number, Variable, Element, Operation, Test, Statement, SetVariable, SetElement, Choice, Loop, Block, Nothing, Then}
+use Rattle.src_tree.specs.Prelude.{variable_number, Tree, Number, Variable, Element, Operation, Test, Statement, SetVariable, SetElement, Choice, Loop, Block}
 use Rattle.scalar_ranges.specs.declared.ranges.Range.{Range}
-use Rattle.scalar_ranges.specs.Ranges.{Ranges, range_at}
-use Rattle.scalar_ranges.specs.Known.{range_of, learned, with_range, forgotten_block, after_statement, after_block, counted, keeps_least, inside_by, inside_of, inside}
+use Rattle.scalar_ranges.specs.Prelude.{Ranges, range_at, range_of, learned, with_range, forgotten_block, after_statement, after_block, counted, keeps_least, inside_by, inside_of, inside}
 use Rattle.scalar_ranges.proofs.Forgetting.{forgotten-less, forgotten-less_block}
 
 module _ (decls : List Decl) where
@@ -18,11 +16,6 @@ module _ (decls : List Decl) where
   after-count known (SetElement x i e) = length-set known (variable_number decls x) None
   after-count known (Choice t a b) = let less = forgotten-less decls known (Choice t a b) in less.count
   after-count known (Loop t a) = forgotten-count known a
-
-  pub after-count_block : (known : Ranges) (b : Block) → length (after_block decls known b) ≡ length known
-  after-count_block known Nothing = refl
-  after-count_block known (Then s rest) =
-      after-count_block (after_statement decls known s) rest ∙ after-count known s
 
   -- in the body of a loop
   module _ (known : Ranges) (t : Test) (a : Block) where
@@ -43,13 +36,11 @@ module _ (decls : List Decl) where
         by-keeps false = forgotten-count known a
 
     by-left : (e : Tree) → length (inside_of decls known t a e) ≡ length known
-    by-left (Number z) = forgotten-count known a
     by-left (Variable x) =
         by-guess x (range_at known (variable_number decls x))
         (counted t.cmp (range_at known (variable_number decls x))
         (range_of decls (forgotten_block decls known a) t.right))
-    by-left (Element x i) = forgotten-count known a
-    by-left (Operation op u v) = forgotten-count known a
+    by-left other = forgotten-count known a
 
     pub inside-count : length (inside decls known t a) ≡ length known
     inside-count = by-left t.left

@@ -3,12 +3,10 @@ use Rattle.std.proofs.Common.{◌≡◌, ℕ, ◌<◌, ◌≤◌, ◌⊎◌, inl
 use Rattle.std.proofs.lemmas.Bool.{cases_eq, cases_lt}
 use Rattle.std.proofs.lemmas.List.{get_or-set_same, get_or-set_other, get_or_past, length-set}
 use Rattle.src_tree.specs.declared.trees.Decl.{Decl}
-use Rattle.src_tree.specs.Meaning.{Store, Left, scalar, words_of_number, variable_number, guard_holds, run_of, run_of_block}
-use Rattle.src_tree.specs.Trees.{Statement, SetVariable, SetElement, Choice, Loop, Block, Nothing, Then}
+use Rattle.src_tree.specs.Prelude.{Store, Left, scalar, words_of_number, variable_number, guard_holds, run_of, run_of_block, Statement, SetVariable, SetElement, Choice, Loop, Block, Nothing, Then}
 use Rattle.src_tree.proofs.KeptByRuns.{IsKept, one_keeps, both_keep, either_keeps, loop_keeps}
 use Rattle.scalar_ranges.specs.declared.ranges.Range.{Range}
-use Rattle.scalar_ranges.specs.Ranges.{Ranges, range_at, IsIn, AreWithin}
-use Rattle.scalar_ranges.specs.Known.{forgotten_statement, forgotten_block}
+use Rattle.scalar_ranges.specs.Prelude.{Ranges, range_at, IsIn, AreWithin, forgotten_statement, forgotten_block}
 use Rattle.scalar_ranges.proofs.Results.{no-range}
 use Rattle.scalar_ranges.proofs.Writing.{words-length, scalar-other}
 

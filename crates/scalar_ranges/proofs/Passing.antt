@@ -4,13 +4,9 @@ use Rattle.std.specs.Option.{option_and_then}
 use Rattle.gr_word.specs.declared.variables.Label.{Label}
 use Rattle.gr_word.specs.declared.variables.Label.TheVariants.{Public, Secret}
 use Rattle.src_tree.specs.declared.trees.Decl.{Decl}
-use Rattle.src_tree.specs.Contexts.{context_of}
-use Rattle.src_tree.specs.Labels.{label_at}
-use Rattle.src_tree.specs.Meaning.{Store, Left, evaluated, variable_number, words_of_number, wrapped, with_word, scalar_set, run_of, run_of_block}
-use Rattle.src_tree.specs.Trees.{Tree, Statement, SetVariable, SetElement, Choice, Loop, Block, Nothing, Then}
+use Rattle.src_tree.specs.Prelude.{context_of, label_at, Store, Left, evaluated, variable_number, words_of_number, wrapped, with_word, scalar_set, run_of, run_of_block, Tree, Statement, SetVariable, SetElement, Choice, Loop, Block, Nothing, Then}
 use Rattle.scalar_ranges.specs.declared.ranges.Range.{Range}
-use Rattle.scalar_ranges.specs.Ranges.{Ranges, IsIn, AreWithin}
-use Rattle.scalar_ranges.specs.Known.{range_of, learned_as, learned, with_range, after_statement, after_block}
+use Rattle.scalar_ranges.specs.Prelude.{Ranges, IsIn, AreWithin, range_of, learned_as, learned, with_range, after_statement, after_block}
 use Rattle.scalar_ranges.proofs.Results.{no-range}
 use Rattle.scalar_ranges.proofs.Values.{range-in}
 use Rattle.scalar_ranges.proofs.Writing.{words-length, scalar-other, scalar-own, set-within}

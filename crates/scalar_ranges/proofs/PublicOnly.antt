@@ -6,14 +6,10 @@ use Rattle.gr_word.specs.declared.variables.Label.{Label}
 use Rattle.gr_word.specs.declared.variables.Label.TheVariants.{Public, Secret}
 use Rattle.gr_word.specs.declared.variables.Shape.{Shape}
 use Rattle.src_tree.specs.declared.trees.Decl.{Decl}
-use Rattle.src_tree.specs.Contexts.{context_of}
-use Rattle.src_tree.specs.Labels.{label_at, label_or_public}
-use Rattle.src_tree.specs.Meaning.{variable_number}
-use Rattle.src_tree.specs.Trees.{Tree, Number, Variable, Element, Operation, Test, Statement, SetVariable, SetElement, Choice, Loop, Block}
+use Rattle.src_tree.specs.Prelude.{context_of, label_at, label_or_public, variable_number, Tree, Number, Variable, Element, Operation, Test, Statement, SetVariable, SetElement, Choice, Loop, Block}
 use Rattle.src_tree.proofs.VariableNumbers.{same-number}
 use Rattle.scalar_ranges.specs.declared.ranges.Range.{Range}
-use Rattle.scalar_ranges.specs.Ranges.{Ranges, range_at, AreOfPublic}
-use Rattle.scalar_ranges.specs.Known.{nothing_known, range_of, learned_as, learned, with_range, forgotten_block, after_statement, after_block, counted, keeps_least, inside_by, inside_of, inside}
+use Rattle.scalar_ranges.specs.Prelude.{Ranges, range_at, AreOfPublic, nothing_known, range_of, learned_as, learned, with_range, forgotten_block, after_statement, after_block, counted, keeps_least, inside_by, inside_of, inside}
 use Rattle.scalar_ranges.proofs.Results.{no-range}
 use Rattle.scalar_ranges.proofs.Forgetting.{IsLess, forgotten-less, forgotten-less_block}
 use Rattle.scalar_ranges.proofs.Coming.{none-at}
@@ -119,14 +115,12 @@ module _ (decls : List Decl) where
         by-keeps false = forgotten
 
     by-left : (e : Tree) → AreOfPublic decls (inside_of decls known t a e)
-    by-left (Number z) = forgotten
     by-left (Variable x) =
         by-guess x (range_at known (variable_number decls x))
         (counted t.cmp (range_at known (variable_number decls x))
         (range_of decls (forgotten_block decls known a) t.right))
         refl
-    by-left (Element x i) = forgotten
-    by-left (Operation op u v) = forgotten
+    by-left other = forgotten
 
     pub inside-public : AreOfPublic decls (inside decls known t a)
     inside-public = by-left t.left

@@ -7,10 +7,9 @@ use Rattle.std.proofs.lemmas.Int.{to_z_pos, int_wrap_fits}
 use Rattle.std.proofs.lemmas.Nat.{and_le_r}
 use Rattle.gr_word.specs.declared.operations.Op.{Op}
 use Rattle.gr_word.specs.declared.operations.Op.TheVariants.{Add, Sub, Mul, Div, Rem, Remu, And, Or, Xor, Shl, Shr}
-use Rattle.gr_word.specs.Words.{applied, unsigned_of}
+use Rattle.gr_word.specs.Prelude.{applied, unsigned_of}
 use Rattle.scalar_ranges.specs.declared.ranges.Range.{Range}
-use Rattle.scalar_ranges.specs.Ranges.{IsIn}
-use Rattle.scalar_ranges.specs.Known.{range_from, natural, range_by, range_under, operated}
+use Rattle.scalar_ranges.specs.Prelude.{IsIn, range_from, natural, range_by, range_under, operated}
 
 -- a range with these ends, whose numbers are words
 pub record IsFrom (least most : ℕ) (r : Range) : Type 0 where
@@ -187,27 +186,14 @@ module _ (a b r : Range) (y z : ℤ) (first : IsIn a y) (second : IsIn b z) wher
   by-in Add e = sum-in e
   by-in Sub e = difference-in e
   by-in Mul e = product-in e
-  by-in Div e = no-range r e
   by-in Rem e = remainder-in e
-  by-in Remu e = no-range r e
   by-in And e = mask-in e
-  by-in Or e = no-range r e
-  by-in Xor e = no-range r e
   by-in Shl e = shift-in e
-  by-in Shr e = no-range r e
+  by-in other e = no-range r e
 
 under-in : (op : Op) (b r : Range) (y z : ℤ) → IsIn b z → range_under op b ≡ Some r → IsIn r (applied op y z)
 under-in And b r y z second e = masked-in b.most r y z second.number (from-is 0 b.most r e) second.is second.most
-under-in Add b r y z second e = no-range r e
-under-in Sub b r y z second e = no-range r e
-under-in Mul b r y z second e = no-range r e
-under-in Div b r y z second e = no-range r e
-under-in Rem b r y z second e = no-range r e
-under-in Remu b r y z second e = no-range r e
-under-in Or b r y z second e = no-range r e
-under-in Xor b r y z second e = no-range r e
-under-in Shl b r y z second e = no-range r e
-under-in Shr b r y z second e = no-range r e
+under-in other b r y z second e = no-range r e
 
 -- the range of an operation, from those of its operands
 pub operated-in : (op : Op) (a b : Option Range) (r : Range) (y z : ℤ) → ((s : Range) → a ≡ Some s → IsIn s y)

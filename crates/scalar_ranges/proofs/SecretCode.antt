@@ -3,13 +3,9 @@ use Rattle.std.proofs.Common.{◌≡◌, ℕ, Option, Some, None, List, refl, sy
 use Rattle.gr_word.specs.declared.variables.Label.{Label}
 use Rattle.gr_word.specs.declared.variables.Label.TheVariants.{Public, Secret}
 use Rattle.src_tree.specs.declared.trees.Decl.{Decl}
-use Rattle.src_tree.specs.Contexts.{context_of}
-use Rattle.src_tree.specs.Labels.{label_at}
-use Rattle.src_tree.specs.Meaning.{Left, variable_number, run_of, run_of_block}
-use Rattle.src_tree.specs.Trees.{Statement, SetVariable, SetElement, Choice, Loop, Block, Nothing, Then}
-use Rattle.src_tree.specs.Typing.{Flows, TypedStatement, TypedBlock}
+use Rattle.src_tree.specs.Prelude.{context_of, label_at, Left, variable_number, run_of, run_of_block, Statement, SetVariable, SetElement, Choice, Loop, Block, Nothing, Then, Flows, TypedStatement, TypedBlock}
 use Rattle.scalar_ranges.specs.declared.ranges.Range.{Range}
-use Rattle.scalar_ranges.specs.Ranges.{Ranges, range_at, AreWithin, AreOfPublic}
+use Rattle.scalar_ranges.specs.Prelude.{Ranges, range_at, AreWithin, AreOfPublic}
 use Rattle.scalar_ranges.proofs.Forgetting.{Lacks, LacksAll, lacking-keeps, lacking-keeps_block, keeps-within}
 
 -- nothing is known of a scalar to which a secret flows

@@ -1,14 +1,11 @@
 -- The value of an expression is in the range that is known of it.
-use Rattle.std.proofs.Common.{◌≡◌, ℕ, ◌%◌, ◌<◌, Bool, true, false, Option, Some, None, List, refl, subst, sym, arith}
-use Rattle.std.proofs.Math.Nat.{mod-eq_of_lt}
+use Rattle.std.proofs.Common.{◌≡◌, ℕ, ◌<◌, Bool, true, false, Option, Some, None, List, refl, subst, sym, arith}
 use Rattle.std.proofs.lemmas.Bool.{ltb-true}
-use Rattle.gr_word.specs.Words.{unsigned_of}
+use Rattle.gr_word.specs.Prelude.{unsigned_of}
 use Rattle.src_tree.specs.declared.trees.Decl.{Decl}
-use Rattle.src_tree.specs.Meaning.{Store, evaluated, variable_number}
-use Rattle.src_tree.specs.Trees.{Tree, Number, Variable, Element, Operation}
+use Rattle.src_tree.specs.Prelude.{Store, evaluated, variable_number, Tree, Number, Variable, Element, Operation}
 use Rattle.scalar_ranges.specs.declared.ranges.Range.{Range}
-use Rattle.scalar_ranges.specs.Ranges.{Ranges, IsIn, AreWithin}
-use Rattle.scalar_ranges.specs.Known.{range_of, is_below, is_within}
+use Rattle.scalar_ranges.specs.Prelude.{Ranges, IsIn, AreWithin, range_of, is_below, is_within}
 use Rattle.scalar_ranges.proofs.Results.{no-range, natural-in, operated-in}
 
 module _ (decls : List Decl) (known : Ranges) (store : Store) (are : AreWithin known store) where
@@ -33,7 +30,3 @@ module _ (decls : List Decl) (known : Ranges) (store : Store) (are : AreWithin k
           let most = is.most in
           let less = ltb-true r.most length e in
           subst (λ z. unsigned_of z < length) (sym is.is) (let l : is.number < length = omega (arith, most, less) in l)
-
-  pub within-own : (i : Tree) (length : ℕ) → is_within decls known i length ≡ true
-      → unsigned_of (evaluated decls store i) % length ≡ unsigned_of (evaluated decls store i)
-  within-own i length below = mod-eq_of_lt (within-below i length below)

@@ -2,9 +2,9 @@
 use Rattle.std.proofs.Common.{◌≡◌, ◌≢◌, ℕ, ◌<◌, ◌≤◌, ℤ, pos, Option, Some, None, [], length, get_or, set, sym, ap, ◌∙◌, subst, ⊎_elim, arith}
 use Rattle.std.proofs.lemmas.Bool.{cases_eq, cases_lt}
 use Rattle.std.proofs.lemmas.List.{get_or-set_same, get_or-set_other, get_or_past, length-set, set_past}
-use Rattle.src_tree.specs.Meaning.{Store, scalar, words_of_number, with_word, scalar_set}
+use Rattle.src_tree.specs.Prelude.{Store, scalar, words_of_number, with_word, scalar_set}
 use Rattle.scalar_ranges.specs.declared.ranges.Range.{Range}
-use Rattle.scalar_ranges.specs.Ranges.{Ranges, range_at, IsIn, AreWithin}
+use Rattle.scalar_ranges.specs.Prelude.{Ranges, range_at, IsIn, AreWithin}
 use Rattle.scalar_ranges.proofs.Results.{no-range}
 
 -- the words of other variables, and how many words each has

@@ -36,29 +36,16 @@ abbrev pub range_by : Op → Range → Range → Option Range
 range_by Add a b = range_from (a.least + b.least) (a.most + b.most)
 range_by Sub a b = if nat_lt a.least b.most then None else range_from (a.least - b.most) (a.most - b.least)
 range_by Mul a b = range_from (a.least * b.least) (a.most * b.most)
-range_by Div a b = None
 range_by Rem a b = if nat_lt 0 b.least then range_from 0 (b.most - 1) else None
-range_by Remu a b = None
 range_by And a b = range_from 0 b.most
-range_by Or a b = None
-range_by Xor a b = None
 range_by Shl a b =
     if nat_le b.least b.most && nat_lt b.most 63 then range_from (a.least * 2 ^ b.least) (a.most * 2 ^ b.most) else None
-range_by Shr a b = None
+range_by other a b = None
 
 -- the range of an operation on any word and one in a range: that of a mask
 abbrev pub range_under : Op → Range → Option Range
-range_under Add b = None
-range_under Sub b = None
-range_under Mul b = None
-range_under Div b = None
-range_under Rem b = None
-range_under Remu b = None
 range_under And b = range_from 0 b.most
-range_under Or b = None
-range_under Xor b = None
-range_under Shl b = None
-range_under Shr b = None
+range_under other b = None
 
 abbrev pub operated : Op → Option Range → Option Range → Option Range
 operated op a None = None
@@ -118,12 +105,9 @@ after_block decls known (Then s rest) = after_block decls (after_statement decls
 
 -- the range of a scalar that isn't below the least of a range and passes a comparison with a word in another range
 abbrev pub counted_by : Cmp → (start bound : Range) → Option Range
-counted_by Eq start bound = None
-counted_by Ne start bound = None
 counted_by Lt start bound = range_from start.least (bound.most - 1)
 counted_by Le start bound = range_from start.least bound.most
-counted_by Gt start bound = None
-counted_by Ge start bound = None
+counted_by other start bound = None
 
 abbrev pub counted : Cmp → (start bound : Option Range) → Option Range
 counted cmp None bound = None
@@ -148,14 +132,12 @@ inside_by decls forgotten x start (Some guess) a =
 
 -- the same by the left side of the guard
 abbrev pub inside_of : List Decl → Ranges → Test → Block → Tree → Ranges
-inside_of decls known t a (Number z) = forgotten_block decls known a
 inside_of decls known t a (Variable x) =
     inside_by decls (forgotten_block decls known a) x (range_at known (variable_number decls x))
     (counted t.cmp (range_at known (variable_number decls x))
     (range_of decls (forgotten_block decls known a) t.right))
     a
-inside_of decls known t a (Element x i) = forgotten_block decls known a
-inside_of decls known t a (Operation op u v) = forgotten_block decls known a
+inside_of decls known t a other = forgotten_block decls known a
 
 -- what is known in the body of a loop, by what is known before the loop
 abbrev pub inside : List Decl → Ranges → Test → Block → Ranges

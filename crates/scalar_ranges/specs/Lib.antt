@@ -1,3 +1,4 @@
 pub mod Ranges
 pub mod Known
 pub mod Comes
+pub mod Prelude

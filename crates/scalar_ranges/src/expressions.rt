@@ -1,5 +1,5 @@
 ghost use Rattle.std.specs.Prelude.{◌≡◌};
-ghost use Rattle.src_tree.specs.Trees.{expr_tree};
+ghost use Rattle.src_tree.specs.Prelude.{expr_tree};
 ghost use Rattle.scalar_ranges.specs.Known.{is_below, is_within, natural, range_of};
 ghost use Rattle.scalar_ranges.specs.Ranges.{range_at};
 

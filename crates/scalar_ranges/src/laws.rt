@@ -1,10 +1,7 @@
 ghost use Rattle.std.specs.Prelude.{◌≡◌, ◌<◌, ℕ, List, Some, length, true};
-ghost use Rattle.gr_word.specs.Words.{unsigned_of};
+ghost use Rattle.gr_word.specs.Prelude.{unsigned_of};
 ghost use Rattle.src_tree.specs.declared.trees.Decl.{Decl};
-ghost use Rattle.src_tree.specs.Meaning.{Left, Store, evaluated, run_of_block, words_of_number};
-ghost use Rattle.src_tree.specs.Trees.{Block, Statement, Test, Tree};
-ghost use Rattle.src_tree.specs.Contexts.{context_of};
-ghost use Rattle.src_tree.specs.Typing.{TypedBlock};
+ghost use Rattle.src_tree.specs.Prelude.{Left, Store, evaluated, run_of_block, words_of_number, Block, Statement, Test, Tree, context_of, TypedBlock};
 ghost use Rattle.gr_word.specs.declared.variables.Label.TheVariants.{Secret};
 ghost use Rattle.scalar_ranges.specs.Comes.{Comes};
 ghost use Rattle.scalar_ranges.specs.Known.{after_statement, inside, is_within, nothing_known};

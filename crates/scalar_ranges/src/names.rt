@@ -1,7 +1,5 @@
 ghost use Rattle.std.specs.Prelude.{◌≡◌};
-ghost use Rattle.src_tree.specs.Contexts.{context_of};
-ghost use Rattle.src_tree.specs.Labels.{label_at};
-ghost use Rattle.src_tree.specs.Meaning.{variable_number};
+ghost use Rattle.src_tree.specs.Prelude.{context_of, label_at, variable_number};
 
 use gr_word::Label;
 use src_tree::Decl;

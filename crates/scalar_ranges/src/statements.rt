@@ -1,8 +1,7 @@
 ghost use Rattle.std.specs.Prelude.{◌≡◌, IfOk};
-ghost use Rattle.src_tree.specs.Trees.{block_of_all, expr_tree, statement_of, test_of};
+ghost use Rattle.src_tree.specs.Prelude.{block_of_all, expr_tree, statement_of, test_of, variable_number};
 ghost use Rattle.scalar_ranges.specs.Known.{after_block, after_statement, forgotten_block, forgotten_statement, inside, inside_by, keeps_least, learned, with_range};
 ghost use Rattle.scalar_ranges.specs.Ranges.{range_at};
-ghost use Rattle.src_tree.specs.Meaning.{variable_number};
 
 use crate::expressions::{range_at, range_of};
 use crate::names::{label_at, number_of};

@@ -4,11 +4,11 @@ use Rattle.std.specs.Prelude.{nat_le, if◌then◌else◌}
 use Rattle.std.proofs.Math.Nat.{mod-le}
 use Rattle.std.proofs.lemmas.Bool.{le-leb}
 use Rattle.std.proofs.lemmas.List.{append-nil}
-use Rattle.gr_base.specs.Lists.{Within}
-use Rattle.lt_isa.specs.Object.{is_ram}
+use Rattle.gr_base.specs.Prelude.{Within}
+use Rattle.lt_isa.specs.Prelude.{is_ram}
 use Rattle.bank_alloc.specs.declared.places.Place.{Place}
-use Rattle.bank_alloc.specs.Places.{is_array, arrays_in}
-use Rattle.scratch_alloc.specs.Slots.{alternate_slot, scalar_slot, array_slot, slot_behind, slots_behind, slots_of}
+use Rattle.bank_alloc.specs.Prelude.{is_array, arrays_in}
+use Rattle.scratch_alloc.specs.Prelude.{alternate_slot, scalar_slot, array_slot, slot_behind, slots_behind, slots_of}
 
 -- as many slots as places
 length-slots_behind : (before places : List Place) → length (slots_behind before places) ≡ length places

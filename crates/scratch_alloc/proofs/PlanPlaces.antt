@@ -1,8 +1,8 @@
 -- The places of a sound plan are within its banks, and no two variables share a word.
 use Rattle.std.proofs.Common.{ℕ}
-use Rattle.src_tree.specs.Trees.{Source}
-use Rattle.bank_alloc.specs.Layout.{ArePlacesIn}
-use Rattle.scratch_alloc.specs.Plans.{Plan, IsSoundPlan}
+use Rattle.src_tree.specs.Prelude.{Source}
+use Rattle.bank_alloc.specs.Prelude.{ArePlacesIn}
+use Rattle.scratch_alloc.specs.Prelude.{Plan, IsSoundPlan}
 
 pub plan_places : (p : Source) (w : ℕ) (plan : Plan)
     → IsSoundPlan p w plan → ArePlacesIn p w plan.blocks plan.places

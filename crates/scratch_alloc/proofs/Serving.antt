@@ -1,7 +1,7 @@
 -- Which slots serve arrays that aren't resident.
 use Rattle.std.proofs.Common.{ℕ, arith}
-use Rattle.gr_base.specs.Lists.{Within}
-use Rattle.scratch_alloc.specs.Plans.{Serves, PlainSlot, EncryptedSlot, ObliviousSlot}
+use Rattle.gr_base.specs.Prelude.{Within}
+use Rattle.scratch_alloc.specs.Prelude.{Serves, PlainSlot, EncryptedSlot, ObliviousSlot}
 
 -- the slots of arrays
 pub serves-within : {bank slot : ℕ} → Serves bank slot → Within 2 6 slot

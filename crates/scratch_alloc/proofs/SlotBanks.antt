@@ -3,8 +3,8 @@ use Rattle.std.proofs.Common.{◌≡◌, ℕ, ◌+◌, ◌%◌, ◌<◌, Bool, t
 use Rattle.std.specs.Prelude.{nat_le, ◌==◌, ◌||◌}
 use Rattle.std.proofs.lemmas.Bool.{leb-true, leb-false, eqb-true, eqb-false}
 use Rattle.bank_alloc.specs.declared.places.Place.{Place}
-use Rattle.bank_alloc.specs.Places.{arrays_in}
-use Rattle.scratch_alloc.specs.Slots.{HasSlot, PlainScalar, EncryptedScalar, PlainArray, EncryptedArray, ObliviousArray, slot_behind, slots_of}
+use Rattle.bank_alloc.specs.Prelude.{arrays_in}
+use Rattle.scratch_alloc.specs.Prelude.{HasSlot, PlainScalar, EncryptedScalar, PlainArray, EncryptedArray, ObliviousArray, slot_behind, slots_of}
 use Rattle.scratch_alloc.proofs.EachSlot.{get_or-slots}
 
 reached_by : (before : List Place) (q : Place) (oblivious behind plain : Bool)

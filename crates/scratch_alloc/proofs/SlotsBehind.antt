@@ -2,7 +2,7 @@
 use Rattle.std.proofs.Common.{◌≡◌, ℕ, ◌+◌, ◌<◌, ◌≤◌, List, [], ◌∷◌, ◌++◌, length, take, drop, get_or, sym, ap, ◌∙◌, append_assoc}
 use Rattle.std.proofs.lemmas.List.{append-nil, take_more, drop_more, drop_all}
 use Rattle.bank_alloc.specs.declared.places.Place.{Place}
-use Rattle.scratch_alloc.specs.Slots.{slot_behind, slots_behind, slots_of}
+use Rattle.scratch_alloc.specs.Prelude.{slot_behind, slots_behind, slots_of}
 
 -- the slots so far and those that are left are the slots of all
 pub slots_more : (places : List Place) (i : ℕ) (d : Place) (slots more : List ℕ) (slot : ℕ) → i < length places

@@ -2,26 +2,21 @@
 -- each array has whole blocks after those.
 use Rattle.std.proofs.Common.{◌≡◌, ℕ, zero, suc, ◌^◌, ◌<◌, ◌≤◌, true, List, length, take, get_or, Option, Some, None, inl, refl, sym, ap, ◌∙◌, subst, ⊎_elim, arith}
 use Rattle.std.proofs.lemmas.Bool.{cases_lt, cases_eq}
-use Rattle.gr_base.specs.Lists.{Within}
+use Rattle.gr_base.specs.Prelude.{Within}
 use Rattle.gr_word.specs.declared.variables.Label.{Label}
 use Rattle.gr_word.specs.declared.variables.Label.TheVariants.{Public, Secret}
 use Rattle.src_tree.specs.declared.trees.Decl.{Decl}
-use Rattle.src_tree.specs.Limits.{IsWithinLimits, words_of}
-use Rattle.src_tree.specs.Trees.{Source}
+use Rattle.src_tree.specs.Prelude.{IsWithinLimits, words_of, Source}
 use Rattle.bank_alloc.specs.declared.classes.Class.{Class}
 use Rattle.bank_alloc.specs.declared.classes.Class.TheVariants.{ObliviousArray}
 use Rattle.bank_alloc.specs.declared.places.Place.{Place}
-use Rattle.bank_alloc.specs.Apart.{scalar_bank}
-use Rattle.bank_alloc.specs.Classes.{class_of}
-use Rattle.bank_alloc.specs.Fits.{Fits}
-use Rattle.bank_alloc.specs.Places.{place_behind, places_of, bank_count, is_array}
+use Rattle.bank_alloc.specs.Prelude.{scalar_bank, class_of, Fits, place_behind, places_of, bank_count, is_array}
 use Rattle.bank_alloc.proofs.Apart.{array_behind_scalars, scalar_bank-lt}
 use Rattle.bank_alloc.proofs.BankSizes.{bank_some}
 use Rattle.bank_alloc.proofs.EachPlace.{bank_of_label, length-places, get_or-places, scalar_place_at, array_place_at}
 use Rattle.bank_alloc.proofs.Refusals.{length-blocks, get_or-blocks, bank_count-le}
 use Rattle.bank_alloc.proofs.SoundPlaces.{places_sound}
-use Rattle.scratch_alloc.specs.Plans.{Pin, IsSoundPlan, IsSoundResident, IsSoundArray, IsSoundByPin, Serves, PlainSlot, EncryptedSlot, ObliviousSlot, scalar_pins, standard_plan, pin_of_slot, no_decl, no_place}
-use Rattle.scratch_alloc.specs.Slots.{slot_behind, slots_of}
+use Rattle.scratch_alloc.specs.Prelude.{Pin, IsSoundPlan, IsSoundResident, IsSoundArray, IsSoundByPin, Serves, PlainSlot, EncryptedSlot, ObliviousSlot, scalar_pins, standard_plan, pin_of_slot, no_decl, no_place, slot_behind, slots_of}
 use Rattle.scratch_alloc.proofs.Serving.{serves-within}
 use Rattle.scratch_alloc.proofs.EachSlot.{length-slots, get_or-slots, scalar_slot-is, array_slot-plain, array_slot-encrypted, array_slot-oblivious}
 

@@ -1,9 +1,8 @@
 ghost use Rattle.std.specs.Prelude.{ℕ, List, ◌<◌, length, slice_index_or, take};
 ghost use Rattle.bank_alloc.specs.declared.places.Place.{Place};
-ghost use Rattle.bank_alloc.specs.Fits.{Fits};
-ghost use Rattle.gr_base.specs.Lists.{Within};
-ghost use Rattle.src_tree.specs.Limits.{IsWithinLimits};
-ghost use Rattle.src_tree.specs.Trees.{Source};
+ghost use Rattle.bank_alloc.specs.Prelude.{Fits};
+ghost use Rattle.gr_base.specs.Prelude.{Within};
+ghost use Rattle.src_tree.specs.Prelude.{IsWithinLimits, Source};
 ghost use Rattle.scratch_alloc.specs.Plans.{IsSoundPlan, standard_plan};
 ghost use Rattle.scratch_alloc.specs.Slots.{HasSlot, slots_of};
 

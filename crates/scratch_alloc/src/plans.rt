@@ -1,6 +1,6 @@
 ghost use Rattle.std.specs.Prelude.{◌≡◌, ◌%◌, ◌+◌, ◌<◌, IfOk, [], length};
-ghost use Rattle.lt_isa.specs.Object.{is_ram};
-ghost use Rattle.bank_alloc.specs.Places.{arrays_in};
+ghost use Rattle.lt_isa.specs.Prelude.{is_ram};
+ghost use Rattle.bank_alloc.specs.Prelude.{arrays_in};
 ghost use Rattle.scratch_alloc.specs.Plans.{scalar_pins};
 ghost use Rattle.scratch_alloc.specs.Slots.{array_slot, alternate_slot, scalar_slot, slot_behind, slots_of};
 

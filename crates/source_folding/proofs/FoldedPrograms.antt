@@ -1,22 +1,15 @@
 -- What folding makes of a program means the same, is well typed if the program is, and isn't larger.
 use Rattle.std.proofs.Common.{◌≡◌, ℕ, zero, suc, ◌+◌, ◌≤◌, Bool, true, false, if◌then◌else◌, ℤ, Option, Some, None, List, refl, sym, ap, ◌∙◌, subst, arith}
 use Rattle.std.specs.Option.{option_and_then, option_map}
-use Rattle.gr_word.specs.Fitting.{FitsWants}
-use Rattle.gr_word.specs.Words.{IsWord, compared}
+use Rattle.gr_word.specs.Prelude.{FitsWants, IsWord, compared}
 use Rattle.gr_word.specs.declared.variables.Want.{Want}
 use Rattle.gr_word.specs.declared.variables.Label.{Label}
 use Rattle.gr_word.specs.declared.variables.Label.TheVariants.{Public, Secret}
 use Rattle.src_tree.specs.declared.trees.Decl.{Decl}
-use Rattle.src_tree.specs.Contexts.{Context, context_of}
-use Rattle.src_tree.specs.Labels.{higher, inside, label_at, label_of, label_of_test}
-use Rattle.src_tree.specs.Limits.{IsWithinLimits, Low, LowBlock, LowStatement, block_weight, parts_weight, statement_weight, test_weight, weight_of}
-use Rattle.src_tree.specs.Meaning.{Store, Left, Execution, variable_number, element_set, scalar_set, with_word, evaluated, guard_holds, in_turn, turn_taken, looped, run_of, run_of_block, meaning}
-use Rattle.src_tree.specs.Trees.{Tree, Test, Statement, SetVariable, SetElement, Choice, Loop, Block, Nothing, Then, Source}
-use Rattle.src_tree.specs.Typing.{IsTyped, Flows, TypedBlock, TypedStatement, TypedTest}
+use Rattle.src_tree.specs.Prelude.{Context, context_of, higher, inside, label_at, label_of, label_of_test, IsWithinLimits, Low, LowBlock, LowStatement, block_weight, parts_weight, statement_weight, test_weight, weight_of, Store, Left, Execution, variable_number, element_set, scalar_set, with_word, evaluated, guard_holds, in_turn, turn_taken, looped, run_of, run_of_block, meaning, Tree, Test, Statement, SetVariable, SetElement, Choice, Loop, Block, Nothing, Then, Source, IsTyped, Flows, TypedBlock, TypedStatement, TypedTest}
 use Rattle.src_tree.proofs.Loops.{left, same_after}
 use Rattle.source_meaning.proofs.Keeping.{keeps_word}
-use Rattle.source_folding.specs.Folded.{folded, folded_test, folded_statement, folded_block, folded_source}
-use Rattle.source_folding.specs.Numbers.{TestNumbersFit, StatementNumbersFit, BlockNumbersFit}
+use Rattle.source_folding.specs.Prelude.{folded, folded_test, folded_statement, folded_block, folded_source, TestNumbersFit, StatementNumbersFit, BlockNumbersFit}
 use Rattle.source_folding.proofs.FoldedTrees.{value-word, folded-value, folded-label, folded-typed, folded-height, folded-weight}
 
 -- ---- the meaning

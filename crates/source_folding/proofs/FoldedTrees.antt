@@ -1,7 +1,7 @@
 -- What folding makes of an expression has the same value, the same label and the same types, and isn't larger.
 use Rattle.std.proofs.Common.{◌≡◌, ℕ, zero, suc, ◌+◌, ◌-◌, ◌*◌, ◌%◌, ◌^◌, ◌<◌, ◌≤◌, max, Bool, true, false, cond, ◌==◌, ℤ, pos, Option, Some, None, List, [], ◌∷◌, length, get_or, refl, sym, ap, ◌∙◌, subst, ⊎_elim, arith, w64}
 use Rattle.std.specs.Prelude.{find}
-use Rattle.std.specs.Int.{cast_signed}
+use Rattle.std.specs.Int.{cast_signed, int_wrap}
 use Rattle.std.specs.List.{range_with_len}
 use Rattle.std.proofs.Math.IntN.{*ℤ_comm}
 use Rattle.std.proofs.lemmas.Bool.{cases_lt, eqb-true}
@@ -10,9 +10,7 @@ use Rattle.std.proofs.Math.Facts.{sfits_lit}
 use Rattle.std.proofs.lemmas.List.{get_or_past}
 use Rattle.std.proofs.lemmas.List.Elements.{All-get_or}
 use Rattle.std.proofs.lemmas.Nat.{pow_pos, pow_below}
-use Rattle.std.specs.Int.{int_wrap}
-use Rattle.gr_word.specs.Words.{IsWord, applied, unsigned_of}
-use Rattle.gr_word.specs.Fitting.{AreWords, FitsWants}
+use Rattle.gr_word.specs.Prelude.{IsWord, applied, unsigned_of, AreWords, FitsWants}
 use Rattle.gr_word.specs.declared.variables.Want.{Want}
 use Rattle.gr_word.proofs.Words.{IsWord-applied}
 use Rattle.gr_word.specs.declared.operations.Op.{Op}
@@ -21,15 +19,8 @@ use Rattle.gr_word.specs.declared.variables.Label.{Label}
 use Rattle.gr_word.specs.declared.variables.Label.TheVariants.{Public, Secret}
 use Rattle.gr_word.proofs.SmallNumbers.{remu_small, and_small}
 use Rattle.src_tree.specs.declared.trees.Decl.{Decl}
-use Rattle.src_tree.specs.Contexts.{Context}
-use Rattle.src_tree.specs.Heights.{height_of}
-use Rattle.src_tree.specs.Labels.{higher, label_at, label_of}
-use Rattle.src_tree.specs.Limits.{tree_weight}
-use Rattle.src_tree.specs.Meaning.{Store, element, evaluated, variable_number, words_of_number}
-use Rattle.src_tree.specs.Trees.{Tree, Number, Variable, Element, Operation}
-use Rattle.src_tree.specs.Typing.{TypedTree, Flows}
-use Rattle.source_folding.specs.Folded.{number_of, is_product, is_remainder, power_of, mask_of, by_power, by_right, by_numbers, operation, folded}
-use Rattle.source_folding.specs.Numbers.{NumbersFit}
+use Rattle.src_tree.specs.Prelude.{Context, height_of, higher, label_at, label_of, tree_weight, Store, element, evaluated, variable_number, words_of_number, Tree, Number, Variable, Element, Operation, TypedTree, Flows}
+use Rattle.source_folding.specs.Prelude.{number_of, is_product, is_remainder, power_of, mask_of, by_power, by_right, by_numbers, operation, folded, NumbersFit}
 
 -- an expression that is a number
 pub is-number : (a : Tree) (z : ℤ) → number_of a ≡ Some z → a ≡ Number z
@@ -37,36 +28,16 @@ is-number (Number y) z e = ap Number (some-same y z e)
   where
     some-same : (y z : ℤ) → Some y ≡ Some z → y ≡ z
     some-same y z e = cc
-is-number (Variable x) z e = absurd (let f : ◌≡◌ {A = Option ℤ} None (Some z) = e in cc)
-is-number (Element x i) z e = absurd (let f : ◌≡◌ {A = Option ℤ} None (Some z) = e in cc)
-is-number (Operation op a b) z e = absurd (let f : ◌≡◌ {A = Option ℤ} None (Some z) = e in cc)
+is-number other z e = absurd (let f : ◌≡◌ {A = Option ℤ} None (Some z) = e in cc)
 
 -- which operation is a product, and which a remainder
 product-is : (op : Op) → is_product op ≡ true → op ≡ Mul
 product-is Mul e = refl
-product-is Add e = absurd (let f : ◌≡◌ {A = Bool} false true = e in cc)
-product-is Sub e = absurd (let f : ◌≡◌ {A = Bool} false true = e in cc)
-product-is Div e = absurd (let f : ◌≡◌ {A = Bool} false true = e in cc)
-product-is Rem e = absurd (let f : ◌≡◌ {A = Bool} false true = e in cc)
-product-is Remu e = absurd (let f : ◌≡◌ {A = Bool} false true = e in cc)
-product-is And e = absurd (let f : ◌≡◌ {A = Bool} false true = e in cc)
-product-is Or e = absurd (let f : ◌≡◌ {A = Bool} false true = e in cc)
-product-is Xor e = absurd (let f : ◌≡◌ {A = Bool} false true = e in cc)
-product-is Shl e = absurd (let f : ◌≡◌ {A = Bool} false true = e in cc)
-product-is Shr e = absurd (let f : ◌≡◌ {A = Bool} false true = e in cc)
+product-is other e = absurd (let f : ◌≡◌ {A = Bool} false true = e in cc)
 
 remainder-is : (op : Op) → is_remainder op ≡ true → op ≡ Remu
 remainder-is Remu e = refl
-remainder-is Add e = absurd (let f : ◌≡◌ {A = Bool} false true = e in cc)
-remainder-is Sub e = absurd (let f : ◌≡◌ {A = Bool} false true = e in cc)
-remainder-is Mul e = absurd (let f : ◌≡◌ {A = Bool} false true = e in cc)
-remainder-is Div e = absurd (let f : ◌≡◌ {A = Bool} false true = e in cc)
-remainder-is Rem e = absurd (let f : ◌≡◌ {A = Bool} false true = e in cc)
-remainder-is And e = absurd (let f : ◌≡◌ {A = Bool} false true = e in cc)
-remainder-is Or e = absurd (let f : ◌≡◌ {A = Bool} false true = e in cc)
-remainder-is Xor e = absurd (let f : ◌≡◌ {A = Bool} false true = e in cc)
-remainder-is Shl e = absurd (let f : ◌≡◌ {A = Bool} false true = e in cc)
-remainder-is Shr e = absurd (let f : ◌≡◌ {A = Bool} false true = e in cc)
+remainder-is other e = absurd (let f : ◌≡◌ {A = Bool} false true = e in cc)
 
 -- a power of two
 pub record IsPower (z : ℤ) (k : ℕ) : Type 0 where
@@ -235,11 +206,6 @@ module _ (decls : List Decl) (wants : List Want) (store : Store) (fits : FitsWan
       ∙ ap (λ z. applied op z (evaluated decls store (folded b))) first
       ∙ ap (applied op (evaluated decls store a)) second
 
--- the label
-higher-public : (l : Label) → higher l Public ≡ l
-higher-public Public = refl
-higher-public Secret = refl
-
 higher-swapped : (l m : Label) → higher l m ≡ higher m l
 higher-swapped Public Public = refl
 higher-swapped Public Secret = refl
@@ -288,12 +254,10 @@ folded-typed known (Operation op a b) (first, second) =
 
 -- the height and the weight
 made-height : (op : Op) (a b m : Tree) → Made op a b m → height_of m ≤ max (height_of a) (height_of b) + 1
-made-height op a b _ AsBefore = omega arith
-made-height op a b _ (Computed y z e f) = omega arith
-made-height op a b _ (Swapped e) = omega arith
 made-height op a b _ (SwappedShift y k f e is) = let one = ap height_of f in omega arith
 made-height op a b _ (Shifted z k f e is) = let one = ap height_of f in omega arith
 made-height op a b _ (Masked z k f e is) = let one = ap height_of f in omega arith
+made-height op a b _ other = omega arith
 
 pub folded-height : (e : Tree) → height_of (folded e) ≤ height_of e
 folded-height (Number z) = omega arith
@@ -306,12 +270,10 @@ folded-height (Operation op a b) =
     omega arith
 
 made-weight : (op : Op) (a b m : Tree) → Made op a b m → tree_weight m ≤ 1 + (tree_weight a + tree_weight b)
-made-weight op a b _ AsBefore = omega arith
-made-weight op a b _ (Computed y z e f) = omega arith
-made-weight op a b _ (Swapped e) = omega arith
 made-weight op a b _ (SwappedShift y k f e is) = let one = ap tree_weight f in omega arith
 made-weight op a b _ (Shifted z k f e is) = let one = ap tree_weight f in omega arith
 made-weight op a b _ (Masked z k f e is) = let one = ap tree_weight f in omega arith
+made-weight op a b _ other = omega arith
 
 pub folded-weight : (e : Tree) → tree_weight (folded e) ≤ tree_weight e
 folded-weight (Number z) = omega arith

@@ -2,9 +2,8 @@
 use Rattle.std.proofs.Common.{◌≡◌, ℕ, ◌+◌, ◌<◌, ◌≤◌, List, [], ◌∷◌, ◌++◌, length, get_or, drop, refl, sym, ap, ◌∙◌, subst, add-one, drop-cons}
 use Rattle.std.proofs.Math.ListN.{drop_of_length-le}
 use Rattle.src_tree.specs.declared.trees.Stmt.{Stmt}
-use Rattle.src_tree.specs.Trees.{Block, Nothing, Then, statement_of, block_of_all}
-use Rattle.source_folding.specs.Folded.{folded_statement, folded_block}
-use Rattle.source_folding.specs.Numbers.{StatementNumbersFit, BlockNumbersFit}
+use Rattle.src_tree.specs.Prelude.{Block, Nothing, Then, statement_of, block_of_all}
+use Rattle.source_folding.specs.Prelude.{folded_statement, folded_block, StatementNumbersFit, BlockNumbersFit}
 
 -- a block, and then another
 abbrev pub joined : Block → Block → Block

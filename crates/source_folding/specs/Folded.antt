@@ -13,37 +13,17 @@ use Rattle.src_tree.specs.Trees.{Tree, Number, Variable, Element, Operation, Tes
 -- the number that an expression is
 abbrev pub number_of : Tree → Option ℤ
 number_of (Number z) = Some z
-number_of (Variable x) = None
-number_of (Element x i) = None
-number_of (Operation op a b) = None
+number_of other = None
 
 -- whether an operation is a product, of which a number on the left is written on the right; and whether it is an
 -- unsigned remainder
 abbrev pub is_product : Op → Bool
 is_product Mul = true
-is_product Add = false
-is_product Sub = false
-is_product Div = false
-is_product Rem = false
-is_product Remu = false
-is_product And = false
-is_product Or = false
-is_product Xor = false
-is_product Shl = false
-is_product Shr = false
+is_product other = false
 
 abbrev pub is_remainder : Op → Bool
 is_remainder Remu = true
-is_remainder Add = false
-is_remainder Sub = false
-is_remainder Mul = false
-is_remainder Div = false
-is_remainder Rem = false
-is_remainder And = false
-is_remainder Or = false
-is_remainder Xor = false
-is_remainder Shl = false
-is_remainder Shr = false
+is_remainder other = false
 
 -- k, for a number 2^k below 2^63
 unfoldable pub power_of : ℕ → Option ℕ

@@ -1,5 +1,5 @@
 ghost use Rattle.std.specs.Prelude.{◌≡◌, IfOk, OnOk, Some};
-ghost use Rattle.src_tree.specs.Trees.{Operation, expr_tree, test_of};
+ghost use Rattle.src_tree.specs.Prelude.{Operation, expr_tree, test_of};
 ghost use Rattle.source_folding.specs.Numbers.{NumbersFit, TestNumbersFit};
 ghost use Rattle.source_folding.specs.Folded.{by_left, by_power, by_right, folded, folded_test, number_of, operation};
 

@@ -1,10 +1,7 @@
 ghost use Rattle.std.specs.Prelude.{◌≡◌, ℕ, ◌≤◌, List};
-ghost use Rattle.gr_word.specs.Fitting.{FitsWants};
+ghost use Rattle.gr_word.specs.Prelude.{FitsWants};
 ghost use Rattle.gr_word.specs.declared.variables.Want.{Want};
-ghost use Rattle.src_tree.specs.Limits.{IsWithinLimits, weight_of};
-ghost use Rattle.src_tree.specs.Meaning.{Store, meaning};
-ghost use Rattle.src_tree.specs.Trees.{Source};
-ghost use Rattle.src_tree.specs.Typing.{IsTyped};
+ghost use Rattle.src_tree.specs.Prelude.{IsWithinLimits, weight_of, Store, meaning, Source, IsTyped};
 ghost use Rattle.source_folding.specs.Numbers.{BlockNumbersFit};
 ghost use Rattle.source_folding.specs.Folded.{folded_source};
 

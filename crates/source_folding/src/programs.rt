@@ -1,5 +1,5 @@
 ghost use Rattle.std.specs.Prelude.{◌≡◌, IfOk, OnOk};
-ghost use Rattle.src_tree.specs.Trees.{statement_of, block_of_all, source_of};
+ghost use Rattle.src_tree.specs.Prelude.{statement_of, block_of_all, source_of};
 ghost use Rattle.source_folding.specs.Numbers.{BlockNumbersFit, StatementNumbersFit};
 ghost use Rattle.source_folding.specs.Folded.{folded_statement, folded_block, folded_source};
 

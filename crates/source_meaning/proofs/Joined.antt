@@ -3,9 +3,9 @@ use Rattle.std.proofs.Common.{◌≡◌, ℕ, ◌+◌, ◌<◌, ◌≤◌, List,
 use Rattle.std.proofs.Math.ListN.{drop_of_length-le}
 use Rattle.src_tree.specs.declared.trees.Decl.{Decl}
 use Rattle.src_tree.specs.declared.trees.Stmt.{Stmt}
-use Rattle.src_tree.specs.Trees.{statement_of, block_of_all}
+use Rattle.src_tree.specs.Prelude.{statement_of, block_of_all}
 use Rattle.source_meaning.specs.declared.placed.Step.{Step}
-use Rattle.source_meaning.specs.Placed.{Actions, NoAction, Before, placed_statement, placed_block, action_of, actions_of_all, actions_joined}
+use Rattle.source_meaning.specs.Prelude.{Actions, NoAction, Before, placed_statement, placed_block, action_of, actions_of_all, actions_joined}
 
 -- no actions after others
 pub joined_none : (actions : Actions) → actions_joined actions NoAction ≡ actions

@@ -3,10 +3,9 @@ use Rattle.std.proofs.Common.{ℕ, zero, suc, ℤ, List, [], ◌∷◌, ◌∙�
 use Rattle.std.proofs.lemmas.List.{length-set}
 use Rattle.std.proofs.lemmas.List.Elements.{All-set}
 use Rattle.gr_word.specs.declared.variables.Want.{Want}
-use Rattle.gr_word.specs.Fitting.{FitsWants}
-use Rattle.gr_word.specs.Words.{IsWord}
-use Rattle.src_tree.specs.Meaning.{Store, with_word}
-use Rattle.source_meaning.specs.Kept.{KeepsFit}
+use Rattle.gr_word.specs.Prelude.{FitsWants, IsWord}
+use Rattle.src_tree.specs.Prelude.{Store, with_word}
+use Rattle.source_meaning.specs.Prelude.{KeepsFit}
 
 -- a store fits what it fits
 pub keeps_same : (store : Store) → KeepsFit store store

@@ -1,12 +1,11 @@
 -- A program whose names are replaced by numbers has the same meaning, and its iterations never increase.
 use Rattle.std.proofs.Common.{◌≡◌, Bool, true, false, if◌then◌else◌, Option, Some, List, refl, ap, ◌∙◌}
 use Rattle.std.specs.Option.{option_and_then}
-use Rattle.gr_word.specs.Words.{applied, compared}
+use Rattle.gr_word.specs.Prelude.{applied, compared}
 use Rattle.src_tree.specs.declared.trees.Decl.{Decl}
-use Rattle.src_tree.specs.Trees.{Tree, Number, Variable, Element, Operation, Test, Statement, SetVariable, SetElement, Choice, Loop, Block, Nothing, Then}
-use Rattle.src_tree.specs.Meaning.{Store, Left, variable_number, element, scalar_set, element_set, evaluated, guard_holds, run_of, run_of_block}
+use Rattle.src_tree.specs.Prelude.{Tree, Number, Variable, Element, Operation, Test, Statement, SetVariable, SetElement, Choice, Loop, Block, Nothing, Then, Store, Left, variable_number, element, scalar_set, element_set, evaluated, guard_holds, run_of, run_of_block}
 use Rattle.src_tree.proofs.Loops.{TurnsFall, same_after, looped_alike, both_fall, loop_falls, one_falls, either_falls}
-use Rattle.source_meaning.specs.Placed.{Action, PutScalar, PutElement, Choose, Repeat, Actions, NoAction, Before, placed_tree, placed_test, placed_statement, placed_block, value_at, holds_at, act, act_all}
+use Rattle.source_meaning.specs.Prelude.{Action, PutScalar, PutElement, Choose, Repeat, Actions, NoAction, Before, placed_tree, placed_test, placed_statement, placed_block, value_at, holds_at, act, act_all}
 
 pub value_same : (decls : List Decl) (store : Store) (t : Tree)
     → value_at store (placed_tree decls t) ≡ evaluated decls store t

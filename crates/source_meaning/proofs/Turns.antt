@@ -1,9 +1,9 @@
 -- One iteration of a loop in execution: what is still to do has the result of the whole loop.
 use Rattle.std.proofs.Common.{◌≡◌, ℕ, zero, suc, ◌-◌, ◌<◌, Bool, true, false, Option, Some, None, sym, ap, ◌∙◌, arith}
 use Rattle.std.specs.Option.{option_and_then}
-use Rattle.src_tree.specs.Meaning.{Store, Left, Execution, loop}
+use Rattle.src_tree.specs.Prelude.{Store, Left, Execution, loop}
 use Rattle.src_tree.proofs.Loops.{TurnsFall, loop_ends, loop_spent, loop_again}
-use Rattle.source_meaning.specs.Placed.{left_with}
+use Rattle.source_meaning.specs.Prelude.{left_with}
 
 module _ (test : Store → Bool) (body : Execution) (store : Store) (before : Left) where
   -- a loop whose test is false has finished

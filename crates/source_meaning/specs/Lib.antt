@@ -2,3 +2,4 @@ pub use Rattle.src_tree.specs.Meaning
 pub mod Outcomes
 pub mod Placed
 pub mod Kept
+pub mod Prelude

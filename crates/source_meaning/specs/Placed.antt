@@ -8,11 +8,11 @@ use Rattle.src_tree.specs.declared.trees.Decl.{Decl}
 use Rattle.src_tree.specs.Trees.{Tree, Number, Variable, Element, Operation, Test, Statement, SetVariable, SetElement, Choice, Loop, Block, Nothing, Then}
 use Rattle.src_tree.specs.Meaning.{Store, Left, Execution, variable_number, scalar, element, scalar_set, element_set, in_turn, loop}
 use Rattle.source_meaning.specs.declared.placed.Term.{Term}
-use Rattle.source_meaning.specs.declared.placed.Term.TheVariants as term
 use Rattle.source_meaning.specs.declared.placed.Check.{Check}
 use Rattle.source_meaning.specs.declared.placed.Step.{Step}
 use Rattle.source_meaning.specs.declared.placed.Step.TheOpen.{Step-F}
 use Rattle.source_meaning.specs.declared.placed.Step.TheFolds.{fold-Step}
+use Rattle.source_meaning.specs.declared.placed.Term.TheVariants as term
 use Rattle.source_meaning.specs.declared.placed.Step.TheOpen as open_step
 
 pub data Placed : Type 0 where

@@ -1,8 +1,7 @@
 ghost use Rattle.std.specs.Prelude.{◌≡◌, IfOk};
-ghost use Rattle.gr_word.specs.Fitting.{FitsWants};
-ghost use Rattle.src_tree.specs.Trees.{source_of};
-ghost use Rattle.src_tree.specs.Meaning.{meaning};
-ghost use Rattle.flow_types.specs.Wants.{declared_wants};
+ghost use Rattle.gr_word.specs.Prelude.{FitsWants};
+ghost use Rattle.src_tree.specs.Prelude.{source_of, meaning};
+ghost use Rattle.flow_types.specs.Prelude.{declared_wants};
 ghost use Rattle.source_meaning.specs.Outcomes.{left_of, LeftFits};
 
 use crate::executing::execute_block;

@@ -1,8 +1,7 @@
 ghost use Rattle.std.specs.Prelude.{◌≡◌, IfOk};
 ghost use Rattle.source_meaning.specs.Kept.{KeepsFit};
 ghost use Rattle.source_meaning.specs.Placed.{left_with, with_turns};
-ghost use Rattle.src_tree.specs.Meaning.{evaluated, guard_holds, run_of, run_of_block};
-ghost use Rattle.src_tree.specs.Trees.{expr_tree, test_of, statement_of, block_of_all};
+ghost use Rattle.src_tree.specs.Prelude.{evaluated, guard_holds, run_of, run_of_block, expr_tree, test_of, statement_of, block_of_all};
 
 use crate::placing::{number_of, place_statement};
 use crate::running::run_step;

@@ -1,7 +1,6 @@
 ghost use Rattle.std.specs.Prelude.{◌≡◌, ℕ, suc, true, false, List, Some, None};
 ghost use Rattle.src_tree.specs.declared.trees.Decl.{Decl};
-ghost use Rattle.src_tree.specs.Trees.{Test, Block, Loop};
-ghost use Rattle.src_tree.specs.Meaning.{Store, guard_holds, in_turn, run_of, run_of_block};
+ghost use Rattle.src_tree.specs.Prelude.{Test, Block, Loop, Store, guard_holds, in_turn, run_of, run_of_block};
 
 /// Laws of loops, as the language defines them. A loop whose guard is false leaves everything as it is. A loop whose
 /// guard is true is spent if no iteration is left; otherwise it executes its body with one fewer iteration, and then

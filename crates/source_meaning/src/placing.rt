@@ -1,6 +1,5 @@
 ghost use Rattle.std.specs.Prelude.{◌≡◌, IfOk};
-ghost use Rattle.src_tree.specs.Meaning.{variable_number};
-ghost use Rattle.src_tree.specs.Trees.{expr_tree, test_of, statement_of, block_of_all};
+ghost use Rattle.src_tree.specs.Prelude.{variable_number, expr_tree, test_of, statement_of, block_of_all};
 ghost use Rattle.source_meaning.specs.Placed.{placed_tree, placed_test, placed_statement, placed_block, placed_of, placed_check, action_of, actions_of_all};
 
 use crate::placed::{Check, Step, Term};

@@ -1,7 +1,7 @@
 ghost use Rattle.std.specs.Prelude.{◌≡◌, ◌≤◌, IfSome};
 ghost use Rattle.source_meaning.specs.Kept.{KeepsFit};
 ghost use Rattle.source_meaning.specs.Placed.{placed_of, placed_check, action_of, actions_of_all, value_at, holds_at, act, act_all, with_turns, left_with};
-ghost use Rattle.src_tree.specs.Meaning.{loop};
+ghost use Rattle.src_tree.specs.Prelude.{loop};
 
 use crate::placed::{Check, Step, Term};
 use crate::stores::{element, scalar, set_element, set_scalar};

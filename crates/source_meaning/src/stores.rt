@@ -1,6 +1,6 @@
 ghost use Rattle.std.specs.Prelude.{◌≡◌, ◌%◌, ◌<◌, [], pos, length, slice_index_or};
-ghost use Rattle.gr_word.specs.Words.{unsigned_of};
-ghost use Rattle.src_tree.specs.Meaning.{scalar, element, scalar_set, element_set, with_word, wrapped};
+ghost use Rattle.gr_word.specs.Prelude.{unsigned_of};
+ghost use Rattle.src_tree.specs.Prelude.{scalar, element, scalar_set, element_set, with_word, wrapped};
 ghost use Rattle.source_meaning.specs.Kept.{KeepsFit};
 
 use gr_word::Inputs;

@@ -6,13 +6,12 @@ use Rattle.std.proofs.lemmas.Bool.{and_parts, cond_both, leb-true}
 use Rattle.std.proofs.lemmas.List.{length-set}
 use Rattle.std.proofs.lemmas.List.Elements.{All-from_get_or, All-get_or, All-set}
 use Rattle.std.proofs.lemmas.Nat.{pow_pos}
-use Rattle.lt_isa.specs.Limits.{most_blocks}
-use Rattle.src_tree.specs.Trees.{Source}
-use Rattle.bank_alloc.specs.Places.{blocks_for}
+use Rattle.lt_isa.specs.Prelude.{most_blocks}
+use Rattle.src_tree.specs.Prelude.{Source}
+use Rattle.bank_alloc.specs.Prelude.{blocks_for}
 use Rattle.bank_alloc.specs.declared.places.Place.{Place}
-use Rattle.scratch_alloc.specs.Plans.{Plan, IsSoundPlan, pin_of_slot, place_at, slot_at, no_place}
-use Rattle.spread_alloc.specs.Spread.{blocks_in, free_slots, is_long, may_move, may_spread, spread_blocks, spread_each, spread_one, spread_over, spread_place, spread_turn}
-use Rattle.spread_alloc.specs.SpreadFits.{PlanFits}
+use Rattle.scratch_alloc.specs.Prelude.{Plan, IsSoundPlan, pin_of_slot, place_at, slot_at, no_place}
+use Rattle.spread_alloc.specs.Prelude.{blocks_in, free_slots, is_long, may_move, may_spread, spread_blocks, spread_each, spread_one, spread_over, spread_place, spread_turn, PlanFits}
 use Rattle.spread_alloc.proofs.SpreadArrays.{fewer_blocks}
 
 -- a place begins at a block that its bank may have

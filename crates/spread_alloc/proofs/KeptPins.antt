@@ -3,9 +3,9 @@ use Rattle.std.proofs.Common.{◌≡◌, ℕ, zero, suc, ◌+◌, ◌^◌, ◌<�
 use Rattle.std.specs.List.{range_with_len}
 use Rattle.std.specs.Prelude.{length}
 use Rattle.std.proofs.lemmas.Bool.{cond_both}
-use Rattle.bank_alloc.specs.Places.{blocks_for}
-use Rattle.scratch_alloc.specs.Plans.{Plan, pin_of_slot, place_at}
-use Rattle.spread_alloc.specs.Spread.{free_slots, may_spread, spread_place, spread_over, spread_one, spread_each, spread_turn, spread_plan}
+use Rattle.bank_alloc.specs.Prelude.{blocks_for}
+use Rattle.scratch_alloc.specs.Prelude.{Plan, pin_of_slot, place_at}
+use Rattle.spread_alloc.specs.Prelude.{free_slots, may_spread, spread_place, spread_over, spread_one, spread_each, spread_turn, spread_plan}
 use Rattle.spread_alloc.proofs.Slots.{first-free, free-at, free_slots-are, pinned-other}
 
 module _ (size : ℕ) (oblivious : Bool) (t : ℕ) (low : t < 2) where

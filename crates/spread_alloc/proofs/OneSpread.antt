@@ -4,8 +4,8 @@ use Rattle.std.specs.List.{range_with_len}
 use Rattle.std.proofs.lemmas.List.{at_drop_more}
 use Rattle.std.proofs.lemmas.List.Elements.{All-from_get_or}
 use Rattle.scratch_alloc.specs.declared.plans.Pin.{Pin}
-use Rattle.scratch_alloc.specs.Plans.{Plan}
-use Rattle.spread_alloc.specs.Spread.{free_among, free_slots, is_free, spread_each, spread_one}
+use Rattle.scratch_alloc.specs.Prelude.{Plan}
+use Rattle.spread_alloc.specs.Prelude.{free_among, free_slots, is_free, spread_each, spread_one}
 use Rattle.spread_alloc.proofs.Slots.{first-free, free-at, free_slots-are}
 
 module _ (pins : List (Option Pin)) (slots : List ℕ) (k : ℕ) where

@@ -6,8 +6,8 @@ use Rattle.std.proofs.lemmas.Bool.{and_parts, cases_eq, cases_lt, cond_both, eq-
 use Rattle.std.proofs.lemmas.List.{get_or-drop, get_or-set_same, get_or-set_other, get_or-take, length-drop, length-set, length-take}
 use Rattle.std.proofs.lemmas.List.Folds.{list_any_at}
 use Rattle.scratch_alloc.specs.declared.plans.Pin.{Pin}
-use Rattle.scratch_alloc.specs.Plans.{Plan, pin_to, pin_of_slot, slot_at}
-use Rattle.spread_alloc.specs.Spread.{spread_slots, serves_other, is_free, free_among, free_slots, pinned_from}
+use Rattle.scratch_alloc.specs.Prelude.{Plan, pin_to, pin_of_slot, slot_at}
+use Rattle.spread_alloc.specs.Prelude.{spread_slots, serves_other, is_free, free_among, free_slots, pinned_from}
 
 -- a slot that may hold a block of variable number k
 pub record IsFree (plan : Plan) (k slot : ℕ) : Type 0 where

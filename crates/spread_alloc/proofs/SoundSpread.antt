@@ -7,15 +7,14 @@ use Rattle.std.proofs.Math.Nat.{div-lt_iff_lt-mul}
 use Rattle.std.proofs.lemmas.Nat.{pow_pos}
 use Rattle.std.proofs.lemmas.List.{get_or-set_same, get_or-set_other, get_or-take, length-set, length-take, length-take-le}
 use Rattle.gr_word.specs.declared.variables.Label.TheVariants.{Secret}
-use Rattle.lt_isa.specs.Limits.{most_blocks}
-use Rattle.src_tree.specs.Trees.{Source}
+use Rattle.lt_isa.specs.Prelude.{most_blocks}
+use Rattle.src_tree.specs.Prelude.{Source}
 use Rattle.bank_alloc.specs.declared.places.Place.{Place}
-use Rattle.bank_alloc.specs.Apart.{start_of_place, end_of_place}
-use Rattle.bank_alloc.specs.Places.{blocks_for}
+use Rattle.bank_alloc.specs.Prelude.{start_of_place, end_of_place, blocks_for}
 use Rattle.bank_alloc.proofs.EachPlace.{blocks_for-hold, blocks_for-some}
 use Rattle.scratch_alloc.specs.declared.plans.Pin.{Pin}
-use Rattle.scratch_alloc.specs.Plans.{Plan, IsSoundPlan, IsSoundByPin, IsSoundArray, pin_of_slot, decl_at, place_at, slot_at, no_place}
-use Rattle.spread_alloc.specs.Spread.{free_slots, blocks_in, may_move, is_long, may_spread, place_behind, spread_place, spread_blocks, spread_over, spread_one, spread_each, spread_turn, last_bank, without_empty_banks, spread_plan}
+use Rattle.scratch_alloc.specs.Prelude.{Plan, IsSoundPlan, IsSoundByPin, IsSoundArray, pin_of_slot, decl_at, place_at, slot_at, no_place}
+use Rattle.spread_alloc.specs.Prelude.{free_slots, blocks_in, may_move, is_long, may_spread, place_behind, spread_place, spread_blocks, spread_over, spread_one, spread_each, spread_turn, last_bank, without_empty_banks, spread_plan}
 use Rattle.spread_alloc.proofs.Slots.{FreeFrom, free_slots-are, first-free, length-pinned}
 use Rattle.spread_alloc.proofs.SpreadArrays.{IsTarget, secret_of_bank, spread_sound}
 

@@ -3,16 +3,16 @@ use Rattle.std.proofs.Common.{◌≡◌, ◌≢◌, ℕ, ◌+◌, ◌*◌, ◌^�
 use Rattle.std.proofs.Math.Nat.{mul-le-mul_left}
 use Rattle.std.proofs.lemmas.Bool.{cases_eq, cases_lt}
 use Rattle.std.proofs.lemmas.List.{get_or-set_same, get_or-set_other, length-set}
-use Rattle.gr_base.specs.Lists.{Within}
+use Rattle.gr_base.specs.Prelude.{Within}
 use Rattle.gr_word.specs.declared.variables.Label.{Label}
 use Rattle.gr_word.specs.declared.variables.Label.TheVariants.{Public, Secret}
-use Rattle.lt_isa.specs.Limits.{most_blocks}
-use Rattle.src_tree.specs.Trees.{Source}
+use Rattle.lt_isa.specs.Prelude.{most_blocks}
+use Rattle.src_tree.specs.Prelude.{Source}
 use Rattle.bank_alloc.specs.declared.places.Place.{Place}
-use Rattle.bank_alloc.specs.Apart.{AreApart, start_of_place, end_of_place, scalar_bank, IsBankOf}
+use Rattle.bank_alloc.specs.Prelude.{AreApart, start_of_place, end_of_place, scalar_bank, IsBankOf}
 use Rattle.scratch_alloc.specs.declared.plans.Pin.{Pin}
-use Rattle.scratch_alloc.specs.Plans.{Plan, IsSoundPlan, IsSoundPlace, IsSoundByPin, IsSoundPin, pin_to, pin_of_slot, decl_at, place_at, slot_at, no_place}
-use Rattle.spread_alloc.specs.Spread.{pinned_from}
+use Rattle.scratch_alloc.specs.Prelude.{Plan, IsSoundPlan, IsSoundPlace, IsSoundByPin, IsSoundPin, pin_to, pin_of_slot, decl_at, place_at, slot_at, no_place}
+use Rattle.spread_alloc.specs.Prelude.{pinned_from}
 use Rattle.spread_alloc.proofs.Slots.{FreeFrom, free-at, pinned-other, pinned-at, pinned-either}
 
 -- fewer blocks have fewer words

@@ -1,2 +1,3 @@
 pub mod Spread
 pub mod SpreadFits
+pub mod Prelude

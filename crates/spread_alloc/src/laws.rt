@@ -1,6 +1,6 @@
 ghost use Rattle.std.specs.Prelude.{◌≡◌, ℕ, length};
-ghost use Rattle.src_tree.specs.Trees.{Source};
-ghost use Rattle.scratch_alloc.specs.Plans.{IsSoundPlan, Plan};
+ghost use Rattle.src_tree.specs.Prelude.{Source};
+ghost use Rattle.scratch_alloc.specs.Prelude.{IsSoundPlan, Plan};
 ghost use Rattle.spread_alloc.specs.Spread.{spread_plan};
 ghost use Rattle.spread_alloc.specs.SpreadFits.{PlanFits};
 

@@ -1,23 +1,9 @@
 ghost use Rattle.std.specs.Prelude.{◌≡◌, ◌<◌, ◌≤◌, ◌+◌, ◌^◌, ◌&&◌, ◌==◌, All, IfOk, OnOk, is_some, not, None, length, slice_index_or};
 ghost use Rattle.std.specs.List.{list_any};
-ghost use Rattle.gr_base.specs.Lists.{Within};
-ghost use Rattle.bank_alloc.specs.Places.{blocks_for};
-ghost use Rattle.scratch_alloc.specs.Plans.{place_at, plan_from};
-ghost use Rattle.spread_alloc.specs.Spread.{
-  free_slots,
-  has_room,
-  is_free,
-  is_long,
-  last_bank,
-  may_move,
-  pinned_from,
-  place_behind,
-  serves_other,
-  spread_one,
-  spread_over,
-  spread_plan,
-  spread_turn,
-};
+ghost use Rattle.gr_base.specs.Prelude.{Within};
+ghost use Rattle.bank_alloc.specs.Prelude.{blocks_for};
+ghost use Rattle.scratch_alloc.specs.Prelude.{place_at, plan_from};
+ghost use Rattle.spread_alloc.specs.Spread.{free_slots, has_room, is_free, is_long, last_bank, may_move, pinned_from, place_behind, serves_other, spread_one, spread_over, spread_plan, spread_turn};
 ghost use Rattle.spread_alloc.specs.SpreadFits.{PlanFits};
 
 use bank_alloc::allocation::block_words;

@@ -1,17 +1,14 @@
 -- The splitting of a text begins with the piece that is found first, and with no other.
-use Rattle.std.proofs.Common.{◌≡◌, ◌⊎◌, inl, inr, ℕ, zero, suc, ◌+◌, ◌<◌, ◌≤◌, Bool, true, false, List, [], ◌∷◌, ◌++◌, length, drop, refl, ap, subst, arith, Option, Some, None, Err}
+use Rattle.std.proofs.Common.{◌≡◌, ◌⊎◌, inl, inr, ℕ, zero, suc, ◌+◌, ◌<◌, ◌≤◌, Bool, true, false, List, [], ◌∷◌, ◌++◌, length, drop, refl, ap, subst, arith, Option, Some, None, Err, eqb}
 use Rattle.std.specs.Prelude.{slice_index, if◌then◌else◌}
 use Rattle.std.specs.List.{prefix_len, take_while}
 use Rattle.std.proofs.lemmas.List.{take-append-drop}
 use Rattle.std.proofs.lemmas.List.Sums.{prefix_len-le-length}
 use Rattle.std.proofs.lemmas.List.Folds.{length-prefix_len}
-use Rattle.std.proofs.Common.{eqb}
 use Rattle.std.proofs.lemmas.Bool.Decides.{nat_tests}
-use Rattle.gr_word.specs.Names.{is_name_byte}
+use Rattle.gr_word.specs.Prelude.{is_name_byte}
 use Rattle.src_lexer.specs.declared.tokens.TokenKind.{TokenKind}
-use Rattle.src_lexer.specs.Pieces.{is_white, is_in_line, LetterRun, Is, Big, Long, Mixed, letter_run_of, sign_of, BytePair, Two, Slashes, Apart, pair_of}
-use Rattle.src_lexer.specs.Splits.{Lexed, with_token, token_at, IsLongest, Splits, Blank, Comment, Word, Double, Single, TooBig, TooLong, Behind, Bad}
-use Rattle.src_lexer.specs.Found.{Found, Skipped, Piece, Faulty, run_found, single_found, sign_found, found_in}
+use Rattle.src_lexer.specs.Prelude.{is_white, is_in_line, LetterRun, Is, Big, Long, Mixed, letter_run_of, sign_of, BytePair, Two, Slashes, Apart, pair_of, Lexed, with_token, token_at, IsLongest, Splits, Blank, Comment, Word, Double, Single, TooBig, TooLong, Behind, Bad, Found, Skipped, Piece, Faulty, run_found, single_found, sign_found, found_in}
 use Rattle.src_lexer.proofs.Longest.{prefix_each, prefix_ends}
 
 -- what the first piece says about the splitting of a text

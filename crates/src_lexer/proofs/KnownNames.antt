@@ -4,9 +4,9 @@ use Rattle.std.specs.Prelude.{IfSome, bytes_eq}
 use Rattle.std.specs.Borrow.{Bor}
 use Rattle.std.specs.BTreeMap.{BTreeMap, get, is_at}
 use Rattle.std.proofs.lemmas.Slice.Eq.{bytes_eq-Decides}
-use Rattle.gr_base.specs.NameMaps.{found_under}
+use Rattle.gr_base.specs.Prelude.{found_under}
 use Rattle.gr_base.proofs.NameMaps.{key_cmp, name_added}
-use Rattle.src_lexer.specs.KnownNames.{HoldsOwn}
+use Rattle.src_lexer.specs.Prelude.{HoldsOwn}
 
 -- the name under some bytes
 pub own_found : (m : BTreeMap (Bor (List ℕ)) (List ℕ)) (bytes name : List ℕ)

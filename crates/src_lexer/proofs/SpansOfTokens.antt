@@ -4,8 +4,7 @@ use Rattle.std.proofs.lemmas.List.{drop-drop}
 use Rattle.std.proofs.Math.Seq.{take-append_seam, drop-append_seam}
 use Rattle.src_lexer.specs.declared.tokens.TokenKind.{TokenKind}
 use Rattle.src_lexer.specs.declared.tokens.Token.{Token}
-use Rattle.src_lexer.specs.Splits.{Lexed, with_token, token_at, Splits, Ends, Blank, Comment, Word, Double, Single}
-use Rattle.src_lexer.specs.Spans.{Spelled, ByRun, ByOne, ByTwo, InOrder, IsSlice, AreSlices}
+use Rattle.src_lexer.specs.Prelude.{Lexed, with_token, token_at, Splits, Ends, Blank, Comment, Word, Double, Single, Spelled, ByRun, ByOne, ByTwo, InOrder, IsSlice, AreSlices}
 
 abbrev pub SpansOf : ℕ → ℕ → Lexed → Type 0
 SpansOf at end (Ok tokens) = InOrder at end tokens

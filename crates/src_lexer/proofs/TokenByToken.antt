@@ -4,10 +4,8 @@ use Rattle.std.proofs.lemmas.List.{append-nil, drop-drop, drop_all}
 use Rattle.src_lexer.specs.declared.tokens.TokenKind.{TokenKind}
 use Rattle.src_lexer.specs.declared.tokens.Token.{Token}
 use Rattle.src_lexer.specs.declared.errors.LexError.{LexError}
-use Rattle.src_lexer.specs.Splits.{token_at, Splits}
-use Rattle.src_lexer.specs.Unread.{left_from, BeginsWith}
-use Rattle.src_lexer.specs.Found.{Found, Skipped, Piece, Faulty, found_in}
-use Rattle.src_lexer.proofs.Unread.{begins_with_none, begins_with_both, all_of_them, fault_after}
+use Rattle.src_lexer.specs.Prelude.{token_at, Splits, left_from, BeginsWith, Found, Skipped, Piece, Faulty, found_in}
+use Rattle.src_lexer.proofs.Unread.{begins_with_both, all_of_them, fault_after}
 use Rattle.src_lexer.proofs.FirstPieces.{Allows, found_allows}
 
 -- these tokens were read from one byte of a text to another; each has at least one byte
@@ -15,11 +13,6 @@ pub record Stands (text : List ℕ) (at end : ℕ) (tokens : List Token) : Type 
   pub inside : end ≤ length text
   pub sizes : at + length tokens ≤ end
   pub begins : BeginsWith (left_from at text) tokens (left_from end text)
-
--- nothing was read yet
-pub none_read : (text : List ℕ) (at : ℕ) → at ≤ length text → Stands text at at []
-none_read text at h =
-    record { inside = h; sizes = omega arith; begins = begins_with_none (left_from at text) }
 
 allows : (at : ℕ) (text : List ℕ) → 0 < length text → Allows at text (found_in at text)
 allows at [] h = absurd (omega arith)

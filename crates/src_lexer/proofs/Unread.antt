@@ -3,8 +3,7 @@ use Rattle.std.proofs.Common.{◌≡◌, List, [], ◌∷◌, ◌++◌, refl, sy
 use Rattle.std.proofs.lemmas.List.{append-nil}
 use Rattle.src_lexer.specs.declared.tokens.Token.{Token}
 use Rattle.src_lexer.specs.declared.errors.LexError.{LexError}
-use Rattle.src_lexer.specs.Splits.{Lexed, with_token, with_tokens, Splits, Ends}
-use Rattle.src_lexer.specs.Unread.{Unread, BeginsWith}
+use Rattle.src_lexer.specs.Prelude.{Lexed, with_token, with_tokens, Splits, Ends, Unread, BeginsWith}
 
 -- some tokens and then others precede what both together do
 pub tokens_append : (first second : List Token) (reading : Lexed)
@@ -21,10 +20,6 @@ tokens_before (token ∷ first) second = ap (with_token token) (tokens_before fi
 pub tokens_before_fault : (tokens : List Token) (e : LexError) → with_tokens tokens (Err e) ≡ Err e
 tokens_before_fault [] e = refl
 tokens_before_fault (token ∷ tokens) e = ap (with_token token) (tokens_before_fault tokens e)
-
--- what is left begins with no tokens, after which the same is left
-pub begins_with_none : (left : Unread) → BeginsWith left [] left
-begins_with_none left = record { splits = λ reading s. s }
 
 -- the tokens of two steps
 pub begins_with_both : {first second third : Unread} (tokens more : List Token)

@@ -4,8 +4,8 @@ use Rattle.std.specs.List.{prefix_len, take_while}
 use Rattle.gr_word.specs.Names.{is_name_byte}
 use Rattle.src_lexer.specs.declared.tokens.TokenKind.{TokenKind}
 use Rattle.src_lexer.specs.declared.errors.LexError.{LexError}
-use Rattle.src_lexer.specs.declared.errors.LexError.TheVariants as error
 use Rattle.src_lexer.specs.Pieces.{is_white, is_in_line, LetterRun, Is, Big, Long, Mixed, letter_run_of, sign_of, BytePair, Two, Slashes, Apart, pair_of}
+use Rattle.src_lexer.specs.declared.errors.LexError.TheVariants as error
 
 -- white space or a comment of this length; a token of this length; or an error
 pub data Found : Type 0 where

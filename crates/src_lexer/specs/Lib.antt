@@ -5,3 +5,4 @@ pub mod Found
 pub mod Seen
 pub mod Spans
 pub mod KnownNames
+pub mod Prelude

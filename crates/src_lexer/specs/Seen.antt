@@ -18,9 +18,7 @@ run_seen (run.Mixed digits) = Mixed digits
 -- the digits of a mixed run are within it
 abbrev pub MixedWithin : ℕ → runs.Run → Type 0
 MixedWithin size (run.Mixed digits) = digits ≤ size
-MixedWithin size (run.Is k) = Unit {0}
-MixedWithin size run.Big = Unit {0}
-MixedWithin size run.Long = Unit {0}
+MixedWithin size other = Unit {0}
 
 abbrev pub pair_seen : pairs.Pair → BytePair
 pair_seen (pair.Two k) = Two k

@@ -6,8 +6,8 @@ use Rattle.gr_word.specs.Names.{is_name_byte}
 use Rattle.src_lexer.specs.declared.tokens.TokenKind.{TokenKind}
 use Rattle.src_lexer.specs.declared.tokens.Token.{Token}
 use Rattle.src_lexer.specs.declared.errors.LexError.{LexError}
-use Rattle.src_lexer.specs.declared.errors.LexError.TheVariants as error
 use Rattle.src_lexer.specs.Pieces.{is_white, is_in_line, Is, Big, Long, Mixed, letter_run_of, sign_of, Two, Slashes, Apart, pair_of}
+use Rattle.src_lexer.specs.declared.errors.LexError.TheVariants as error
 
 -- the tokens of a text, or its first error
 abbrev pub Lexed : Type 0

@@ -1,5 +1,5 @@
 ghost use Rattle.std.specs.Prelude.{◌≡◌, IfOk, IsTrue};
-ghost use Rattle.gr_word.specs.Names.{is_name};
+ghost use Rattle.gr_word.specs.Prelude.{is_name};
 
 use gr_base::Memory;
 use gr_word::Name;

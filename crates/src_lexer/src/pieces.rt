@@ -1,6 +1,6 @@
 ghost use Rattle.std.specs.Prelude.{◌≡◌, ◌⊎◌, ◌<◌, ◌≤◌, ◌+◌, ◌^◌, true, length, drop, slice_index, IfOk, IfErr};
 ghost use Rattle.std.specs.List.{prefix_len, take_while};
-ghost use Rattle.gr_word.specs.Names.{is_name_byte};
+ghost use Rattle.gr_word.specs.Prelude.{is_name_byte};
 ghost use Rattle.src_lexer.specs.declared.errors.LexError.TheVariants.{Memory};
 ghost use Rattle.src_lexer.specs.Found.{found_in, run_found, sign_found, single_found, Faulty};
 ghost use Rattle.src_lexer.specs.Pieces.{is_white, is_in_line, letter_run_of, pair_of, sign_of};

@@ -1,7 +1,7 @@
 ghost use Rattle.std.specs.Prelude.{◌≡◌, ◌<◌, ◌≤◌, true, length, slice_index, bytes_eq, IfOk, IsTrue};
 ghost use Rattle.std.specs.Char.{is_ascii_digit};
 ghost use Rattle.std.specs.List.{prefix_len, list_all};
-ghost use Rattle.gr_word.specs.Names.{is_name_byte, is_name};
+ghost use Rattle.gr_word.specs.Prelude.{is_name_byte, is_name};
 ghost use Rattle.src_lexer.specs.Pieces.{number_run, word_run, letter_run_of, Is};
 ghost use Rattle.src_lexer.specs.Seen.{run_seen, MixedWithin};
 

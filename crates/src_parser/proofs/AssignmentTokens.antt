@@ -4,17 +4,11 @@ use Rattle.std.proofs.Math.Seq.{take-add}
 use Rattle.std.proofs.lemmas.List.{length-append, length-map, length-take-le, map-append, take_all}
 use Rattle.src_lexer.specs.declared.tokens.Token.{Token}
 use Rattle.src_lexer.specs.declared.tokens.TokenKind.{TokenKind}
-use Rattle.src_lexer.specs.declared.tokens.TokenKind.TheVariants as kind
 use Rattle.src_tree.specs.declared.trees.Decl.{Decl}
-use Rattle.src_tree.specs.Trees.{Tree, Statement, SetVariable, SetElement}
-use Rattle.src_parser.specs.Grammar.{limits, operators, SpellsTree, Numeral, Named, Indexed, Bracketed, Negated, Joined}
-use Rattle.src_parser.specs.Refusals.{token_kinds}
-use Rattle.src_parser.specs.Parts.{PartState, in_expression}
-use Rattle.src_parser.specs.Statements.{Outer, Among, Ready, with_part}
-use Rattle.src_parser.specs.Tokenwise.{Advance, mapped, then_advance, advances}
-use Rattle.src_parser.specs.Advances.{ParserState, Doing, programs, advanced}
-use Rattle.src_parser.specs.Assignments.{EndedBy, Adds}
+use Rattle.src_tree.specs.Prelude.{Tree, Statement, SetVariable, SetElement}
+use Rattle.src_parser.specs.Prelude.{limits, operators, SpellsTree, Numeral, Named, Indexed, Bracketed, Negated, Joined, token_kinds, PartState, in_expression, Outer, Among, Ready, with_part, Advance, mapped, then_advance, advances, ParserState, Doing, programs, advanced, EndedBy, Adds}
 use Rattle.src_parser.proofs.PartRead.{PartRuns, variable_read, element_read}
+use Rattle.src_lexer.specs.declared.tokens.TokenKind.TheVariants as kind
 
 -- an expression has no more operators than tokens
 few_operators : {most depth level : ℕ} {tokens : List TokenKind} {tree : Tree} → SpellsTree most depth level tokens tree

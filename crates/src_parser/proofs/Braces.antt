@@ -4,14 +4,11 @@ use Rattle.std.proofs.Common.{◌≡◌, ℕ, ◌+◌, ◌<◌, pos, Bool, true,
 use Rattle.std.specs.Prelude.{nat_lt}
 use Rattle.std.proofs.lemmas.Bool.{ltb-true}
 use Rattle.src_lexer.specs.declared.tokens.TokenKind.{TokenKind}
-use Rattle.src_lexer.specs.declared.tokens.TokenKind.TheVariants as kind
-use Rattle.src_tree.specs.Trees.{Tree}
-use Rattle.src_parser.specs.Grammar.{Limits, comparison_of}
-use Rattle.src_parser.specs.Operands.{Reading, At, Wanted, Named, Given, TokenStep, Moves, Stops, Deep, Joint, Joins, closing, reads, whole, used_of}
-use Rattle.src_parser.specs.Tokenwise.{Advance, Goes, Wrong, TooMuch, mapped, with_braces}
-use Rattle.src_parser.specs.Parts.{Form, Asked, Value, Place, Stored, Left, Right, Part, Target, Placed, Guarding, Inside, PartState, targeting, placing, guarding, comparing, behind_expression, ending_where, in_expression, part_advanced}
-use Rattle.src_parser.specs.Headings.{Heading, Labelled, Typed, Titled, Sizing, Sized, Closing, HeadingState, heading_advanced}
+use Rattle.src_tree.specs.Prelude.{Tree}
+use Rattle.src_parser.specs.Prelude.{Limits, comparison_of, Reading, At, Wanted, Given, TokenStep, Moves, Stops, Deep, Joint, Joins, closing, reads, whole, used_of, Advance, Goes, Wrong, TooMuch, mapped, with_braces, Form, Asked, Value, Place, Stored, Left, Right, Part, Target, Placed, Guarding, Inside, PartState, targeting, placing, guarding, comparing, behind_expression, ending_where, in_expression, part_advanced, Heading, Labelled, Typed, Titled, Sizing, Sized, Closing, HeadingState, heading_advanced}
+use Rattle.src_parser.specs.Operands.{Named}
 use Rattle.src_parser.proofs.Tokenwise.{Counted}
+use Rattle.src_lexer.specs.declared.tokens.TokenKind.TheVariants as kind
 
 pub same_state : {S : Type 0} (x y : S) → ◌≡◌ {A = Advance S} (Goes x) (Goes y) → x ≡ y
 same_state x y e = cc
@@ -82,15 +79,12 @@ comparing_counted most form left used _ s count after e is = absurd (cc)
 ending_counted : (most : ℕ) (asked : Asked) (tree : Tree) (used : ℕ) (k : TokenKind) (s : PartState)
     (count after : ℕ) → behind_expression asked tree used k ≡ Goes s → after ≡ count → Counted k most count after
 ending_counted most (Value name) tree used kind.Semi s count after e is = is
-ending_counted most (Value name) tree used _ s count after e is = absurd (cc)
 ending_counted most (Place name) tree used kind.RBracket s count after e is = is
-ending_counted most (Place name) tree used _ s count after e is = absurd (cc)
 ending_counted most (Stored name index) tree used kind.Semi s count after e is = is
-ending_counted most (Stored name index) tree used _ s count after e is = absurd (cc)
 ending_counted most (Left form) tree used k s count after e is =
     comparing_counted most form tree used k s count after e is
 ending_counted most (Right form cmp left) tree used kind.RParen s count after e is = is
-ending_counted most (Right form cmp left) tree used _ s count after e is = absurd (cc)
+ending_counted most other tree used _ s count after e is = absurd (cc)
 
 ending_where_counted : (most : ℕ) (asked : Asked) (o : Option Tree) (used : ℕ) (k : TokenKind) (s : PartState)
     (count after : ℕ) → ending_where asked o used k ≡ Goes s → after ≡ count → Counted k most count after
@@ -118,15 +112,10 @@ part_counted most (Inside asked x) k s count after e is =
 pub heading_counted : (most : ℕ) (heading : Heading) (k : TokenKind) (s : HeadingState) (count after : ℕ)
     → heading_advanced heading k ≡ Goes s → after ≡ count → Counted k most count after
 heading_counted most (Labelled label) kind.Int s count after e is = is
-heading_counted most (Labelled label) _ s count after e is = absurd (cc)
 heading_counted most (Typed label) (kind.Word name) s count after e is = is
-heading_counted most (Typed label) _ s count after e is = absurd (cc)
 heading_counted most (Titled label name) kind.Semi s count after e is = is
 heading_counted most (Titled label name) kind.LBracket s count after e is = is
-heading_counted most (Titled label name) _ s count after e is = absurd (cc)
 heading_counted most (Sizing label name) (kind.Num (pos n)) s count after e is = is
-heading_counted most (Sizing label name) _ s count after e is = absurd (cc)
 heading_counted most (Sized label name n) kind.RBracket s count after e is = is
-heading_counted most (Sized label name n) _ s count after e is = absurd (cc)
 heading_counted most (Closing label name n) kind.Semi s count after e is = is
-heading_counted most (Closing label name n) _ s count after e is = absurd (cc)
+heading_counted most other _ s count after e is = absurd (cc)

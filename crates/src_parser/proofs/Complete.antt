@@ -6,12 +6,11 @@ use Rattle.std.proofs.lemmas.Bool.{and_from, lt-ltb, le-leb, lt-leb}
 use Rattle.gr_word.specs.declared.operations.Op.{Op}
 use Rattle.gr_word.specs.declared.operations.Op.TheVariants.{Sub}
 use Rattle.src_lexer.specs.declared.tokens.TokenKind.{TokenKind}
-use Rattle.src_lexer.specs.declared.tokens.TokenKind.TheVariants as kind
-use Rattle.src_tree.specs.Trees.{Tree, Number, Variable, Operation}
-use Rattle.src_parser.specs.Grammar.{Limits, operator_of, level_of, operators, SpellsTree, Numeral, Named, Indexed, Bracketed, Negated, Joined}
-use Rattle.src_parser.specs.Operands as m
-use Rattle.src_parser.specs.Operands.{Waiting, Open, Index, Sign, Pending, Wanted, Given, Reading, At, Moves, Joins, tree_joined, where_room, pending, closing, having, reads}
+use Rattle.src_tree.specs.Prelude.{Tree, Number, Variable, Operation}
+use Rattle.src_parser.specs.Prelude.{Limits, operator_of, level_of, operators, SpellsTree, Numeral, Named, Indexed, Bracketed, Negated, Joined, Waiting, Open, Index, Sign, Pending, Wanted, Given, Reading, At, Moves, Joins, tree_joined, where_room, pending, closing, having, reads}
 use Rattle.src_parser.proofs.Levels.{level_low}
+use Rattle.src_lexer.specs.declared.tokens.TokenKind.TheVariants as kind
+use Rattle.src_parser.specs.Operands as m
 
 -- the level from which on what waits leaves operators to the operand
 abbrev pub top_level : List Waiting → ℕ

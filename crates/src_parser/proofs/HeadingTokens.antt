@@ -2,12 +2,10 @@
 use Rattle.std.proofs.Common.{◌≡◌, ℕ, pos, List, [], ◌∷◌, ◌++◌, Some, None, subst}
 use Rattle.gr_word.specs.declared.variables.Label.{Label}
 use Rattle.src_lexer.specs.declared.tokens.TokenKind.{TokenKind}
-use Rattle.src_lexer.specs.declared.tokens.TokenKind.TheVariants as kind
 use Rattle.src_tree.specs.declared.trees.Decl.{Decl}
-use Rattle.src_parser.specs.Grammar.{keyword_of, Declares, NoMore, Scalar, Array}
-use Rattle.src_parser.specs.Headings.{Heading, Labelled, Typed, Titled, Sizing, Sized, Closing, HeadingState, Begun, Declared, declared, heading_advanced}
-use Rattle.src_parser.specs.Tokenwise.{Goes}
+use Rattle.src_parser.specs.Prelude.{keyword_of, Declares, NoMore, Scalar, Array, Heading, Labelled, Typed, Titled, Sizing, Sized, Closing, HeadingState, Begun, Declared, declared, heading_advanced, Goes}
 use Rattle.src_parser.proofs.Braces.{same_state}
+use Rattle.src_lexer.specs.declared.tokens.TokenKind.TheVariants as kind
 
 -- declarations and then others
 pub declares_both : {ts us : List TokenKind} {a b : List Decl} → Declares ts a → Declares us b
@@ -43,18 +41,13 @@ went tokens x y e s = subst (λ z. HeadingStands z tokens) (same_state x y e) s
 pub heading_steps : {heading : Heading} {tokens : List TokenKind} → Heads heading tokens → (k : TokenKind)
     (s : HeadingState) → heading_advanced heading k ≡ Goes s → HeadingStands s (tokens ++ k ∷ [])
 heading_steps (IsLabelled label) kind.Int s e = went _ _ s e (IsTyped label)
-heading_steps (IsLabelled label) _ s e = absurd (cc)
 heading_steps (IsTyped label) (kind.Word name) s e = went _ _ s e (IsTitled label name)
-heading_steps (IsTyped label) _ s e = absurd (cc)
 heading_steps (IsTitled label name) kind.Semi s e = went _ _ s e (Scalar label name NoMore)
 heading_steps (IsTitled label name) kind.LBracket s e = went _ _ s e (IsSizing label name)
-heading_steps (IsTitled label name) _ s e = absurd (cc)
 heading_steps (IsSizing label name) (kind.Num (pos n)) s e = went _ _ s e (IsSized label name n)
-heading_steps (IsSizing label name) _ s e = absurd (cc)
 heading_steps (IsSized label name n) kind.RBracket s e = went _ _ s e (IsClosing label name n)
-heading_steps (IsSized label name n) _ s e = absurd (cc)
 heading_steps (IsClosing label name n) kind.Semi s e = went _ _ s e (Array label name n NoMore)
-heading_steps (IsClosing label name n) _ s e = absurd (cc)
+heading_steps other _ s e = absurd (cc)
 
 -- what completes a declaration, with a given name if it has none yet
 abbrev pub rest_of : Heading → List ℕ → List TokenKind

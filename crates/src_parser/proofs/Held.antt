@@ -6,11 +6,10 @@ use Rattle.std.proofs.lemmas.List.{append-nil}
 use Rattle.gr_word.specs.declared.operations.Op.{Op}
 use Rattle.gr_word.specs.declared.operations.Op.TheVariants.{Sub}
 use Rattle.src_lexer.specs.declared.tokens.TokenKind.{TokenKind}
-use Rattle.src_lexer.specs.declared.tokens.TokenKind.TheVariants as kind
-use Rattle.src_tree.specs.Trees.{Tree, Number, Element, Operation}
-use Rattle.src_parser.specs.Grammar.{operator_of, level_of, operators, SpellsTree, Indexed, Bracketed, Negated, Joined}
-use Rattle.src_parser.specs.Operands.{Waiting, Open, Index, Sign, Pending, Joint, Joins, tree_joined}
+use Rattle.src_tree.specs.Prelude.{Tree, Number, Element, Operation}
+use Rattle.src_parser.specs.Prelude.{operator_of, level_of, operators, SpellsTree, Indexed, Bracketed, Negated, Joined, Waiting, Open, Index, Sign, Pending, Joint, Joins, tree_joined}
 use Rattle.src_parser.proofs.Levels.{lower}
+use Rattle.src_lexer.specs.declared.tokens.TokenKind.TheVariants as kind
 
 -- tokens that lead to this stack, from `base` open brackets on: `depth` are open then, and an operand of this level
 -- fits

@@ -2,9 +2,9 @@
 use Rattle.std.proofs.Common.{ℕ, ◌<◌, ◌≤◌, List, arith}
 use Rattle.src_lexer.specs.declared.tokens.TokenKind.{TokenKind}
 use Rattle.gr_word.specs.declared.operations.Op.{Op}
+use Rattle.src_tree.specs.Prelude.{Tree}
+use Rattle.src_parser.specs.Prelude.{SpellsTree, Numeral, Named, Indexed, Bracketed, Negated, Joined, level_of}
 use Rattle.gr_word.specs.declared.operations.Op.TheVariants as op
-use Rattle.src_tree.specs.Trees.{Tree}
-use Rattle.src_parser.specs.Grammar.{SpellsTree, Numeral, Named, Indexed, Bracketed, Negated, Joined, level_of}
 
 -- an expression of a level is one of each lower level
 pub lower : {most depth level : ℕ} {tokens : List TokenKind} {tree : Tree} (low : ℕ)

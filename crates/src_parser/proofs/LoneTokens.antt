@@ -1,11 +1,9 @@
 -- The tokens of canonical texts: signs, keywords, names and numbers before white space.
-use Rattle.std.proofs.Common.{◌≡◌, ◌≢◌, inl, inr, ℕ, ◌^◌, ◌<◌, pos, true, false, List, [], ◌∷◌, length, refl, sym, ap, ◌∙◌, arith, Some}
-use Rattle.std.specs.Prelude.{codes, decimal, not, nat_le, slice_index}
+use Rattle.std.proofs.Common.{◌≡◌, ◌≢◌, inl, inr, ℕ, ◌^◌, ◌<◌, pos, true, false, List, [], ◌∷◌, length, refl, sym, ap, ◌∙◌, arith, Some, take, ◌-◌}
+use Rattle.std.specs.Prelude.{codes, decimal, not, nat_le, slice_index, ◌==◌, nat_lt, if◌then◌else◌}
 use Rattle.std.specs.List.{list_all, prefix_len}
 use Rattle.std.specs.Char.{is_ascii_digit}
 use Rattle.std.proofs.lemmas.List.{append-nil, take_all}
-use Rattle.std.proofs.Common.{take, ◌-◌}
-use Rattle.std.specs.Prelude.{◌==◌, nat_lt, if◌then◌else◌}
 use Rattle.std.specs.Str.Parse.{digits_value}
 use Rattle.std.proofs.lemmas.Bool.{and_parts, and_from}
 use Rattle.std.proofs.lemmas.Bool.Decides.{nat_tests}
@@ -13,20 +11,19 @@ use Rattle.std.proofs.lemmas.Fmt.{decimal_nonempty}
 use Rattle.gr_base.proofs.Digits.{decimal_digits, numeral_value}
 use Rattle.gr_base.proofs.ListTests.{list_all-get_or}
 use Rattle.src_lexer.proofs.Longest.{longest_prefix}
-use Rattle.gr_word.specs.Names.{is_name_byte}
+use Rattle.gr_word.specs.Prelude.{is_name_byte}
 use Rattle.gr_word.specs.declared.operations.Op.{Op}
-use Rattle.gr_word.specs.declared.operations.Op.TheVariants as op
 use Rattle.gr_word.specs.declared.operations.Cmp.{Cmp}
-use Rattle.gr_word.specs.declared.operations.Cmp.TheVariants as cmp
-use Rattle.gr_word.specs.declared.variables.Label.TheVariants as label
 use Rattle.gr_word.specs.declared.variables.Label.{Label}
 use Rattle.src_lexer.specs.declared.tokens.TokenKind.{TokenKind}
-use Rattle.src_lexer.specs.declared.tokens.TokenKind.TheVariants as kind
-use Rattle.src_lexer.specs.Pieces.{LetterRun, Is, Big, Mixed, letter_run_of, number_run, word_run, sign_of, pair_of}
-use Rattle.src_tree.specs.Printed.{spaced, line_of_token, op_sign, cmp_sign, label_keyword}
-use Rattle.src_parser.specs.Grammar.{operator_of, comparison_of, keyword_of}
-use Rattle.src_parser.specs.Printable.{IsFree}
+use Rattle.src_lexer.specs.Prelude.{LetterRun, Is, Big, Mixed, letter_run_of, number_run, word_run, sign_of, pair_of}
+use Rattle.src_tree.specs.Prelude.{spaced, line_of_token, op_sign, cmp_sign, label_keyword}
+use Rattle.src_parser.specs.Prelude.{operator_of, comparison_of, keyword_of, IsFree}
 use Rattle.src_parser.proofs.Rendered.{Renders, behind_white, IsAlone, run_alone, single_alone, double_alone}
+use Rattle.gr_word.specs.declared.operations.Op.TheVariants as op
+use Rattle.gr_word.specs.declared.operations.Cmp.TheVariants as cmp
+use Rattle.gr_word.specs.declared.variables.Label.TheVariants as label
+use Rattle.src_lexer.specs.declared.tokens.TokenKind.TheVariants as kind
 
 -- a token and a space
 pub space : {bytes : List ℕ} {k : TokenKind} → IsAlone bytes k → Renders (spaced bytes) (k ∷ [])

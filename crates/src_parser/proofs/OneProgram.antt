@@ -2,12 +2,10 @@
 use Rattle.std.proofs.Common.{◌≡◌, ℕ, List, subst, Ok, Err}
 use Rattle.src_lexer.specs.declared.tokens.Token.{Token}
 use Rattle.src_lexer.specs.declared.errors.LexError.{LexError}
-use Rattle.src_lexer.specs.Splits.{Lexed, Splits}
+use Rattle.src_lexer.specs.Prelude.{Lexed, Splits}
 use Rattle.src_lexer.proofs.OneReading.{one_reading, same_tokens}
-use Rattle.src_tree.specs.Trees.{Source}
-use Rattle.src_parser.specs.Grammar.{limits, Sentence}
-use Rattle.src_parser.specs.Refusals.{token_kinds}
-use Rattle.src_parser.specs.Source.{SpellsSource}
+use Rattle.src_tree.specs.Prelude.{Source}
+use Rattle.src_parser.specs.Prelude.{limits, Sentence, token_kinds, SpellsSource}
 use Rattle.src_parser.proofs.Refused.{one_tree}
 
 -- a text encodes at most one program

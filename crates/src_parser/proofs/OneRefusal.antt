@@ -2,11 +2,9 @@
 use Rattle.std.proofs.Common.{◌≡◌, ℕ, ◌+◌, ◌-◌, List, [], ◌∷◌, ◌++◌, refl, sym, ap, ◌∙◌, subst, append_assoc}
 use Rattle.std.proofs.lemmas.List.{map-append}
 use Rattle.src_lexer.specs.declared.tokens.TokenKind.{TokenKind}
-use Rattle.src_lexer.specs.declared.tokens.TokenKind.TheVariants as kind
 use Rattle.src_lexer.specs.declared.tokens.Token.{Token}
-use Rattle.src_parser.specs.Grammar.{Limits, limits}
-use Rattle.src_parser.specs.Refusals.{token_kinds, Shallow}
-use Rattle.src_parser.specs.Tokenwise.{Begins, Stray, Deeper, Cut}
+use Rattle.src_parser.specs.Prelude.{Limits, limits, token_kinds, Shallow, Begins, Stray, Deeper, Cut}
+use Rattle.src_lexer.specs.declared.tokens.TokenKind.TheVariants as kind
 
 -- two places of a list: they are the same, or one of them is before the other
 data TwoPlaces {A : Type 0} (a : List A) (x : A) (b : List A) (y : A) : Type 0 where

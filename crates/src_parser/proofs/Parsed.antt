@@ -5,16 +5,11 @@ use Rattle.std.proofs.lemmas.List.{append-nil}
 use Rattle.gr_word.specs.declared.variables.Label.TheVariants.{Public, Secret}
 use Rattle.src_lexer.specs.declared.tokens.TokenKind.{TokenKind}
 use Rattle.src_tree.specs.declared.trees.Decl.{Decl}
-use Rattle.src_tree.specs.Trees.{Test, Statement, Block, Source}
-use Rattle.src_parser.specs.Grammar.{Limits, Writes, Ends, Declares, NoMore, Scalar, Array, Sentence, Program}
-use Rattle.src_parser.specs.Headings.{declared}
-use Rattle.src_parser.specs.Parts.{in_expression}
-use Rattle.src_parser.specs.Statements.{Outer, MayElse, Ready, Among, chosen, with_part}
-use Rattle.src_parser.specs.Tokenwise as tokenwise
-use Rattle.src_parser.specs.Tokenwise.{after_advance, mapped}
-use Rattle.src_parser.specs.Advances.{ParserState, Between, Doing, programs, source_made, program_of, advanced}
+use Rattle.src_tree.specs.Prelude.{Test, Statement, Block, Source}
+use Rattle.src_parser.specs.Prelude.{Limits, Writes, Ends, Declares, NoMore, Scalar, Array, Sentence, Program, declared, in_expression, Outer, MayElse, Ready, Among, chosen, with_part, after_advance, mapped, ParserState, Between, Doing, programs, source_made, program_of, advanced}
 use Rattle.src_parser.proofs.StatementsRead.{NoElse, StatementRuns, settled_kind, settled_end, statements_read}
 use Rattle.src_parser.proofs.Written.{NoOwn, block_again, written_spelled}
+use Rattle.src_parser.specs.Tokenwise as tokenwise
 
 abbrev pub parsed : Limits → ParserState → List TokenKind → Option Source
 parsed = tokenwise.parsed advanced program_of

@@ -2,13 +2,10 @@
 use Rattle.std.proofs.Common.{◌≡◌, ◌≢◌, ℕ, ◌+◌, ◌≤◌, List, [], ◌∷◌, ◌++◌, Some, None, refl, ap, ◌∙◌, subst, append_assoc, arith}
 use Rattle.gr_word.specs.declared.operations.Cmp.{Cmp}
 use Rattle.src_lexer.specs.declared.tokens.TokenKind.{TokenKind}
-use Rattle.src_lexer.specs.declared.tokens.TokenKind.TheVariants as kind
-use Rattle.src_tree.specs.Trees.{Tree, Test}
-use Rattle.src_parser.specs.Grammar.{Limits, operator_of, comparison_of, operators, SpellsTree, Compares, Compared}
-use Rattle.src_parser.specs.Operands.{Reading, At, Wanted, Given, Stops, Joins, closing, reads}
-use Rattle.src_parser.specs.Tokenwise.{Goes}
-use Rattle.src_parser.specs.Parts.{Form, Asked, Value, Place, Stored, Left, Right, Part, Target, Placed, Guarding, Inside, VariableSet, ElementSet, GuardRead, PartState, Still, Done, in_expression, part_advanced}
+use Rattle.src_tree.specs.Prelude.{Tree, Test}
+use Rattle.src_parser.specs.Prelude.{Limits, operator_of, comparison_of, operators, SpellsTree, Compares, Compared, Reading, At, Wanted, Given, Stops, Joins, closing, reads, Goes, Form, Asked, Value, Place, Stored, Left, Right, Part, Target, Placed, Guarding, Inside, VariableSet, ElementSet, GuardRead, PartState, Still, Done, in_expression, part_advanced}
 use Rattle.src_parser.proofs.Complete.{Runs, Follows, closer, complete}
+use Rattle.src_lexer.specs.declared.tokens.TokenKind.TheVariants as kind
 
 -- a reading of parts that continues with `part_advanced`, for any result
 pub record PartRuns (most : Limits) {R : Type 0} (go : PartState → List TokenKind → R) : Type 0 where

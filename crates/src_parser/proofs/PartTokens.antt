@@ -3,17 +3,14 @@
 use Rattle.std.proofs.Common.{◌≡◌, ℕ, ◌+◌, ◌≤◌, pos, List, [], ◌∷◌, ◌++◌, Option, Some, None, refl, sym, subst, append_assoc, arith}
 use Rattle.std.proofs.lemmas.List.{append-nil}
 use Rattle.gr_word.specs.declared.operations.Cmp.{Cmp}
-use Rattle.gr_word.specs.declared.operations.Cmp.TheVariants as cmps
 use Rattle.src_lexer.specs.declared.tokens.TokenKind.{TokenKind}
-use Rattle.src_lexer.specs.declared.tokens.TokenKind.TheVariants as kind
-use Rattle.src_tree.specs.Trees.{Tree, Number, Test}
-use Rattle.src_parser.specs.Grammar.{Limits, comparison_of, operators, SpellsTree, Numeral, Compares, Compared}
-use Rattle.src_parser.specs.Operands.{Reading, TokenStep, Moves, Stops, Deep, reads, whole, used_of}
-use Rattle.src_parser.specs.Tokenwise.{Goes}
-use Rattle.src_parser.specs.Parts.{Form, ForChoice, ForLoop, Asked, Value, Place, Stored, Left, Right, Part, Target, Placed, Guarding, Inside, Made, VariableSet, ElementSet, GuardRead, PartState, Still, Done, targeting, placing, guarding, comparing, behind_expression, ending_where, in_expression, part_advanced}
+use Rattle.src_tree.specs.Prelude.{Tree, Number, Test}
+use Rattle.src_parser.specs.Prelude.{Limits, comparison_of, operators, SpellsTree, Numeral, Compares, Compared, Reading, TokenStep, Moves, Stops, Deep, reads, whole, used_of, Goes, Form, ForChoice, ForLoop, Asked, Value, Place, Stored, Left, Right, Part, Target, Placed, Guarding, Inside, Made, VariableSet, ElementSet, GuardRead, PartState, Still, Done, targeting, placing, guarding, comparing, behind_expression, ending_where, in_expression, part_advanced}
 use Rattle.src_parser.proofs.Braces.{same_state}
 use Rattle.src_parser.proofs.Held.{HasNoName, no_name_in_both, Start}
 use Rattle.src_parser.proofs.Reached.{Reached, Wants, reaches, Ended, ends, Fitting, fitting}
+use Rattle.gr_word.specs.declared.operations.Cmp.TheVariants as cmps
+use Rattle.src_lexer.specs.declared.tokens.TokenKind.TheVariants as kind
 
 -- the keyword of a guard
 abbrev pub word_of : Form → TokenKind

@@ -2,18 +2,14 @@
 use Rattle.std.proofs.Common.{◌≡◌, ℕ, List, [], ◌∷◌, ◌++◌}
 use Rattle.src_lexer.specs.declared.tokens.TokenKind.{TokenKind}
 use Rattle.src_lexer.specs.declared.tokens.Token.{Token}
-use Rattle.src_tree.specs.Trees.{Source}
-use Rattle.src_parser.specs.Grammar.{Limits, limits, Sentence}
-use Rattle.src_parser.specs.Refusals.{token_kinds, ProgramBegins, Unexpected, TooDeep, CutShort}
-use Rattle.src_parser.specs.Tokenwise.{Begins, Stray, Deeper, Cut}
-use Rattle.src_parser.specs.Advances.{ParserState, advanced}
-use Rattle.src_parser.specs.Explained.{ExplainsTokens}
-use Rattle.src_parser.specs.Readers.{ReadsTo, Stops}
+use Rattle.src_tree.specs.Prelude.{Source}
+use Rattle.src_parser.specs.Prelude.{Limits, limits, Sentence, token_kinds, ProgramBegins, Unexpected, TooDeep, CutShort, Begins, Stray, Deeper, Cut, ParserState, advanced, ExplainsTokens, ReadsTo}
+use Rattle.src_parser.specs.Readers.{Stops}
 use Rattle.src_parser.specs.declared.errors.ParseError.{ParseError}
-use Rattle.src_parser.specs.declared.errors.ParseError.TheVariants as error
-use Rattle.src_parser.proofs.Tokenwise as tokenwise
 use Rattle.src_parser.proofs.Refused.{program_laws, start}
 use Rattle.src_parser.proofs.SeveralTokens.{stray_after, deeper_after}
+use Rattle.src_parser.specs.declared.errors.ParseError.TheVariants as error
+use Rattle.src_parser.proofs.Tokenwise as tokenwise
 
 begun : {most : Limits} {tokens : List TokenKind} → Begins Sentence most tokens → ProgramBegins most tokens
 begun b = record { shallow = b.shallow; braces = b.braces; more = b.more; program = b.tree; sentence = b.sentence }

@@ -1,16 +1,12 @@
 -- The open blocks of a state are the open braces of its tokens.
 use Rattle.std.proofs.Common.{◌≡◌, ℕ, List, [], refl, sym, ap, ◌∙◌, subst}
 use Rattle.src_lexer.specs.declared.tokens.TokenKind.{TokenKind}
-use Rattle.src_lexer.specs.declared.tokens.TokenKind.TheVariants as kind
 use Rattle.src_tree.specs.declared.trees.Decl.{Decl}
-use Rattle.src_parser.specs.Grammar.{Limits}
-use Rattle.src_parser.specs.Headings.{HeadingState, Begun, Declared, heading_advanced}
-use Rattle.src_parser.specs.Statements.{between_statements, performed, depth_of}
-use Rattle.src_parser.specs.Tokenwise.{Goes}
-use Rattle.src_parser.specs.Advances.{ParserState, Between, Declaring, Doing, programs, between, with_heading, advanced, open_braces}
+use Rattle.src_parser.specs.Prelude.{Limits, HeadingState, Begun, Declared, heading_advanced, between_statements, performed, depth_of, Goes, ParserState, Between, Declaring, Doing, programs, between, with_heading, advanced, open_braces}
 use Rattle.src_parser.proofs.Tokenwise.{Counted}
 use Rattle.src_parser.proofs.Braces.{same_state, mapped_goes, heading_counted}
 use Rattle.src_parser.proofs.StatementBraces.{beginning_counted, statements_counted}
+use Rattle.src_lexer.specs.declared.tokens.TokenKind.TheVariants as kind
 
 same_count : (x y : ParserState) → Goes x ≡ Goes y → open_braces y ≡ open_braces x
 same_count x y e = ap open_braces (sym (same_state x y e))

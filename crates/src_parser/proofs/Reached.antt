@@ -4,13 +4,12 @@ use Rattle.std.specs.Prelude.{◌&&◌, nat_lt}
 use Rattle.std.proofs.lemmas.Bool.{and_parts, ltb-true}
 use Rattle.gr_word.specs.declared.operations.Op.{Op}
 use Rattle.src_lexer.specs.declared.tokens.TokenKind.{TokenKind}
-use Rattle.src_lexer.specs.declared.tokens.TokenKind.TheVariants as kind
-use Rattle.src_tree.specs.Trees.{Tree, Number, Variable, Element}
-use Rattle.src_parser.specs.Grammar.{Limits, operator_of, level_of, operators, SpellsTree, Numeral, Named, Indexed, Bracketed}
-use Rattle.src_parser.specs.Operands as m
-use Rattle.src_parser.specs.Operands.{Waiting, Open, Index, Pending, Wanted, Given, Reading, At, Moves, Stops, Joint, Joins, tree_joined, where_room, wanting, pending, closing, having, naming, reads, whole, used_of}
+use Rattle.src_tree.specs.Prelude.{Tree, Number, Variable, Element}
+use Rattle.src_parser.specs.Prelude.{Limits, operator_of, level_of, operators, SpellsTree, Numeral, Named, Indexed, Bracketed, Waiting, Open, Index, Pending, Wanted, Given, Reading, At, Moves, Stops, Joint, Joins, tree_joined, where_room, wanting, pending, closing, having, naming, reads, whole, used_of}
 use Rattle.src_parser.proofs.Levels.{level_low, lower}
 use Rattle.src_parser.proofs.Held.{HasNoName, Held, Start, Opened, Chosen, Signed, Waits, weight, closes, takes, Taken}
+use Rattle.src_lexer.specs.declared.tokens.TokenKind.TheVariants as kind
+use Rattle.src_parser.specs.Operands as m
 
 -- these tokens lead to this reading, from `base` open brackets and `start` operators and signs on
 pub data Reached (most : Limits) (base start : ℕ) : Reading → List TokenKind → Type 0 where

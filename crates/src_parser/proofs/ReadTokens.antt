@@ -3,16 +3,14 @@ use Rattle.std.proofs.Common.{◌≡◌, ◌⊎◌, inl, inr, ℕ, ◌+◌, ◌�
 use Rattle.std.proofs.lemmas.List.{append-nil}
 use Rattle.gr_word.specs.declared.operations.Op.{Op}
 use Rattle.src_lexer.specs.declared.tokens.TokenKind.{TokenKind}
-use Rattle.src_lexer.specs.declared.tokens.TokenKind.TheVariants as kind
-use Rattle.src_tree.specs.Trees.{Tree, Variable}
-use Rattle.src_parser.specs.Grammar.{Limits, operator_of, operators}
-use Rattle.src_parser.specs.Operands.{Waiting, Reading, At, Wanted, Named, Given, TokenStep, Moves, Stops, Deep, Joint, Joins, tree_joined, closing, having, naming, wanting, reads, whole}
-use Rattle.src_parser.specs.Expressions.{IsExpression, ExpressionBegins}
-use Rattle.src_parser.specs.ReadTokens.{then_read, reads_all, left_whole, ended, after_read, read_to_end}
+use Rattle.src_tree.specs.Prelude.{Tree, Variable}
+use Rattle.src_parser.specs.Prelude.{Limits, operator_of, operators, Waiting, Reading, At, Wanted, Given, TokenStep, Moves, Stops, Deep, Joint, Joins, tree_joined, closing, having, naming, wanting, reads, whole, IsExpression, ExpressionBegins, then_read, reads_all, left_whole, ended, after_read, read_to_end}
+use Rattle.src_parser.specs.Operands.{Named}
 use Rattle.src_parser.proofs.Complete.{Runs, Follows, closer, complete}
 use Rattle.src_parser.proofs.Held.{Start}
 use Rattle.src_parser.proofs.Reached.{Reached, Wants, reaches, fitting, ends, stops_with, room_stops, pending_stops}
 use Rattle.src_parser.proofs.Rooms.{StepShape, Steady, Roomy, reads_shape}
+use Rattle.src_lexer.specs.declared.tokens.TokenKind.TheVariants as kind
 
 -- the reading before an expression
 abbrev pub first : ℕ → ℕ → Reading

@@ -2,9 +2,8 @@
 -- follows.
 use Rattle.std.proofs.Common.{◌≡◌, List, [], refl}
 use Rattle.src_lexer.specs.declared.tokens.TokenKind.{TokenKind}
-use Rattle.src_tree.specs.Trees.{Source}
-use Rattle.src_parser.specs.Grammar.{Limits, Sentence}
-use Rattle.src_parser.specs.Advances.{ParserState, Between, advanced, program_of, open_braces}
+use Rattle.src_tree.specs.Prelude.{Source}
+use Rattle.src_parser.specs.Prelude.{Limits, Sentence, ParserState, Between, advanced, program_of, open_braces}
 use Rattle.src_parser.proofs.Tokenwise.{Laws}
 use Rattle.src_parser.proofs.Standing.{Standing, standing_completes}
 use Rattle.src_parser.proofs.Steps.{steps, nothing_read, finished}

@@ -2,13 +2,12 @@
 use Rattle.std.proofs.Common.{◌≡◌, ◌⊎◌, inl, inr, ℕ, ◌+◌, ◌<◌, true, false, List, [], ◌∷◌, ◌++◌, length, length-append, refl, sym, ap, ◌∙◌, subst, append_assoc, arith, Some, Ok}
 use Rattle.std.specs.List.{list_all}
 use Rattle.std.proofs.lemmas.Bool.Decides.{nat_tests}
-use Rattle.gr_word.specs.Names.{is_name_byte}
+use Rattle.gr_word.specs.Prelude.{is_name_byte}
 use Rattle.src_lexer.specs.declared.tokens.TokenKind.{TokenKind}
 use Rattle.src_lexer.specs.declared.tokens.Token.{Token}
-use Rattle.src_lexer.specs.Pieces.{is_white, Is, letter_run_of, sign_of, Two, Apart, pair_of}
-use Rattle.src_lexer.specs.Splits.{Lexed, with_token, token_at, Splits, Blank, Word, Double, Single}
+use Rattle.src_lexer.specs.Prelude.{is_white, Is, letter_run_of, sign_of, Two, Apart, pair_of, Lexed, with_token, token_at, Splits, Blank, Word, Double, Single}
 use Rattle.src_lexer.proofs.FirstPieces.{place_at}
-use Rattle.src_parser.specs.Refusals.{token_kinds}
+use Rattle.src_parser.specs.Prelude.{token_kinds}
 
 -- a text that splits into tokens of these kinds, before a given rest
 pub record Rendering (at : ℕ) (text rest : List ℕ) (ks : List TokenKind) (more : List Token) : Type 0 where

@@ -6,14 +6,11 @@ use Rattle.std.proofs.lemmas.Bool.{and_parts, and_from, ltb-true, lt-ltb}
 use Rattle.gr_word.specs.declared.operations.Op.{Op}
 use Rattle.gr_word.specs.declared.operations.Cmp.{Cmp}
 use Rattle.src_lexer.specs.declared.tokens.TokenKind.{TokenKind}
-use Rattle.src_lexer.specs.declared.tokens.TokenKind.TheVariants as kind
-use Rattle.src_tree.specs.Trees.{Tree, Variable}
-use Rattle.src_parser.specs.Grammar.{Limits, operator_of, comparison_of}
-use Rattle.src_parser.specs.Operands.{Waiting, Open, Index, Reading, At, Wanted, Named, Given, TokenStep, Moves, Stops, Deep, Joint, Joins, where_room, wanting, pending, closing, having, naming, reads, whole, used_of}
-use Rattle.src_parser.specs.Tokenwise.{Advance, Goes, Wrong, TooMuch, mapped, with_braces}
-use Rattle.src_parser.specs.Parts.{Form, Asked, Value, Place, Stored, Left, Right, Part, Target, Placed, Guarding, Inside, PartState, Still, after_step, targeting, placing, guarding, comparing, behind_expression, ending_where, part_advanced}
-use Rattle.src_parser.specs.Headings.{Heading, Labelled, Typed, Titled, Sizing, Sized, Closing, heading_advanced}
+use Rattle.src_tree.specs.Prelude.{Tree, Variable}
+use Rattle.src_parser.specs.Prelude.{Limits, operator_of, comparison_of, Waiting, Open, Index, Reading, At, Wanted, Given, TokenStep, Moves, Stops, Deep, Joint, Joins, where_room, wanting, pending, closing, having, naming, reads, whole, used_of, Advance, Goes, Wrong, TooMuch, mapped, with_braces, Form, Asked, Value, Place, Stored, Left, Right, Part, Target, Placed, Guarding, Inside, PartState, Still, after_step, targeting, placing, guarding, comparing, behind_expression, ending_where, part_advanced, Heading, Labelled, Typed, Titled, Sizing, Sized, Closing, heading_advanced}
+use Rattle.src_parser.specs.Operands.{Named}
 use Rattle.src_parser.proofs.Tokenwise.{Shape, Always, Where}
+use Rattle.src_lexer.specs.declared.tokens.TokenKind.TheVariants as kind
 
 -- a token of an expression: the effect is the same for any limits; or it is read if this many brackets may be open and
 -- this many operators used

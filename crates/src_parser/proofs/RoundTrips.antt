@@ -2,19 +2,15 @@
 use Rattle.std.proofs.Common.{◌≡◌, ℕ, ◌+◌, ◌<◌, ◌≤◌, pos, negsuc, List, [], ◌∷◌, ◌++◌, refl, sym, ◌∙◌, subst, append_assoc, arith, Option, Some, None, Ok}
 use Rattle.std.proofs.lemmas.List.{append-nil}
 use Rattle.src_lexer.specs.declared.tokens.TokenKind.{TokenKind}
-use Rattle.src_lexer.specs.declared.tokens.TokenKind.TheVariants as kind
 use Rattle.src_tree.specs.declared.trees.Decl.{Decl}
-use Rattle.src_tree.specs.Trees.{Tree, Number, Variable, Element, Operation, Test, Statement, SetVariable, SetElement, Choice, Loop, Block, Nothing, Then, Source}
-use Rattle.src_tree.specs.Heights.{height_of}
+use Rattle.src_tree.specs.Prelude.{Tree, Number, Variable, Element, Operation, Test, Statement, SetVariable, SetElement, Choice, Loop, Block, Nothing, Then, Source, height_of, in_braces, tree_text, test_text, statement_text, block_text, decls_text, source_text}
 use Rattle.src_tree.proofs.TreeHeights.{height-some}
-use Rattle.src_tree.specs.Printed.{in_braces, tree_text, test_text, statement_text, block_text, decls_text, source_text}
-use Rattle.src_parser.specs.Grammar.{limits, level_of, keyword_of, operators, SpellsTree, Numeral, Named, Indexed, Bracketed, Joined, Compares, Compared, Writes, Sets, Puts, ChoosesElse, Repeats, Declares, NoMore, Scalar, Array, Sentence, Program}
-use Rattle.src_parser.specs.Printable.{IsFree, IsPlain, IsLow, TestFits, StatementFits, BlockFits, SizeFits, DeclsFit, IsPrintable}
-use Rattle.src_parser.specs.Source.{SpellsSource}
-use Rattle.src_lexer.specs.Splits.{Splits, Ends}
-use Rattle.src_parser.specs.Grammar as grammar
+use Rattle.src_parser.specs.Prelude.{limits, level_of, keyword_of, operators, SpellsTree, Numeral, Named, Indexed, Bracketed, Joined, Compares, Compared, Writes, Sets, Puts, ChoosesElse, Repeats, Declares, NoMore, Scalar, Array, Sentence, Program, IsFree, IsPlain, IsLow, TestFits, StatementFits, BlockFits, SizeFits, DeclsFit, IsPrintable, SpellsSource}
+use Rattle.src_lexer.specs.Prelude.{Splits, Ends}
 use Rattle.src_parser.proofs.Rendered.{Renders, nothing, both}
 use Rattle.src_parser.proofs.LoneTokens.{space, line, lone, label_alone, op_alone, cmp_alone, name_alone, number_alone}
+use Rattle.src_lexer.specs.declared.tokens.TokenKind.TheVariants as kind
+use Rattle.src_parser.specs.Grammar as grammar
 
 -- an expression's text and its tokens
 pub record TreeText (depth : ℕ) (tree : Tree) : Type 0 where

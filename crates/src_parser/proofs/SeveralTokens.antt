@@ -3,10 +3,7 @@ use Rattle.std.proofs.Common.{◌≡◌, ℕ, ◌+◌, ◌<◌, ◌≤◌, List,
 use Rattle.std.proofs.lemmas.List.{map-append, take_all}
 use Rattle.src_lexer.specs.declared.tokens.TokenKind.{TokenKind}
 use Rattle.src_lexer.specs.declared.tokens.Token.{Token}
-use Rattle.src_parser.specs.Grammar.{Limits, limits}
-use Rattle.src_parser.specs.Readers.{ReadsTo, StopsAt}
-use Rattle.src_parser.specs.Refusals.{token_kinds}
-use Rattle.src_parser.specs.Tokenwise.{Advance, Goes, Wrong, TooMuch, then_advance, advances, Stray, Deeper, Cut}
+use Rattle.src_parser.specs.Prelude.{Limits, limits, ReadsTo, StopsAt, token_kinds, Advance, Goes, Wrong, TooMuch, then_advance, advances, Stray, Deeper, Cut}
 use Rattle.src_parser.proofs.TokenPlaces.{split_at, kinds_more}
 use Rattle.src_parser.proofs.Tokenwise.{Laws, begins, wrong_begins, much_begins, wider_begins, whole_sentence, no_sentence}
 

@@ -1,10 +1,9 @@
 -- The grammar of statements, for any language.
 use Rattle.std.proofs.Common.{◌≡◌, ℕ, ◌+◌, ◌<◌, ◌≤◌, List, [], ◌∷◌, ◌++◌, refl, subst, append_assoc}
 use Rattle.src_lexer.specs.declared.tokens.TokenKind.{TokenKind}
+use Rattle.src_tree.specs.Prelude.{Tree, Test}
+use Rattle.src_parser.specs.Prelude.{Limits, operators, SpellsTree, Compares, Makers}
 use Rattle.src_lexer.specs.declared.tokens.TokenKind.TheVariants as kind
-use Rattle.src_tree.specs.Trees.{Tree, Test}
-use Rattle.src_parser.specs.Grammar.{Limits, operators, SpellsTree, Compares}
-use Rattle.src_parser.specs.Statements.{Makers}
 
 -- tokens that are statements in order, inside `depth` open braces; `Own` are the statements that the language has
 -- besides assignments, choices and loops

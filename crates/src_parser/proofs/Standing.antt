@@ -2,15 +2,12 @@
 use Rattle.std.proofs.Common.{◌≡◌, ◌<◌, List, [], ◌∷◌, ◌++◌, sym, subst, append_assoc}
 use Rattle.src_lexer.specs.declared.tokens.TokenKind.{TokenKind}
 use Rattle.src_tree.specs.declared.trees.Decl.{Decl}
-use Rattle.src_tree.specs.Trees.{Statement, Nothing, block_of}
-use Rattle.src_parser.specs.Grammar.{Limits, Ends, Declares, Sentence, Program}
-use Rattle.src_parser.specs.Headings.{Heading}
-use Rattle.src_parser.specs.Statements.{Blocks}
-use Rattle.src_parser.specs.Tokenwise as tokenwise
-use Rattle.src_parser.specs.Advances.{ParserState, Between, Declaring, Doing, programs, open_braces}
+use Rattle.src_tree.specs.Prelude.{Statement, Nothing, block_of}
+use Rattle.src_parser.specs.Prelude.{Limits, Ends, Declares, Sentence, Program, Heading, Blocks, ParserState, Between, Declaring, Doing, programs, open_braces}
 use Rattle.src_parser.proofs.HeadingTokens.{declares_both, Heads, rest_of, heading_completes}
 use Rattle.src_parser.proofs.StatementsStanding.{StatementsStand, Completed, statements_complete}
 use Rattle.src_parser.proofs.Written.{NoOwn, spelled_written}
+use Rattle.src_parser.specs.Tokenwise as tokenwise
 
 -- these tokens lead to this state
 pub data Standing (most : Limits) : ParserState → List TokenKind → Type 0 where

@@ -2,14 +2,11 @@
 use Rattle.std.proofs.Common.{◌≡◌, ℕ, ◌+◌, List, [], ◌∷◌, refl, sym, ap, ◌∙◌, arith}
 use Rattle.std.specs.Prelude.{nat_lt}
 use Rattle.src_lexer.specs.declared.tokens.TokenKind.{TokenKind}
-use Rattle.src_lexer.specs.declared.tokens.TokenKind.TheVariants as kind
-use Rattle.src_tree.specs.Trees.{Test}
-use Rattle.src_parser.specs.Grammar.{Limits}
-use Rattle.src_parser.specs.Parts.{Form, VariableSet, ElementSet, GuardRead, PartState, Still, Done, part_advanced}
-use Rattle.src_parser.specs.Statements.{Makers, Outer, InFirst, InSecond, InLoop, Ready, MayElse, InPart, Guarded, Otherwise, Blocks, Among, depth_in, depth_of, leaving, between_statements, chosen, elsing, with_part, entering, otherwise, performed}
-use Rattle.src_parser.specs.Tokenwise.{Advance, Goes}
+use Rattle.src_tree.specs.Prelude.{Test}
+use Rattle.src_parser.specs.Prelude.{Limits, Form, VariableSet, ElementSet, GuardRead, PartState, Still, Done, part_advanced, Makers, Outer, InFirst, InSecond, InLoop, Ready, MayElse, InPart, Guarded, Otherwise, Blocks, Among, depth_in, depth_of, leaving, between_statements, chosen, elsing, with_part, entering, otherwise, performed, Advance, Goes}
 use Rattle.src_parser.proofs.Tokenwise.{Counted}
 use Rattle.src_parser.proofs.Braces.{same_state, mapped_goes, braces_counted, part_counted}
+use Rattle.src_lexer.specs.declared.tokens.TokenKind.TheVariants as kind
 
 module _ {S : Type 0} (make : Makers S) (outside : ℕ) where
   same_count : (x y : Blocks S) → ◌≡◌ {A = Advance (Blocks S)} (Goes x) (Goes y)

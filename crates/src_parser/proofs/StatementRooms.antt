@@ -1,13 +1,11 @@
 -- The effect of a token of statements depends on the limits in only one way: it is read if there is room.
 use Rattle.std.proofs.Common.{◌≢◌, ℕ, List, [], ◌∷◌}
 use Rattle.src_lexer.specs.declared.tokens.TokenKind.{TokenKind}
-use Rattle.src_lexer.specs.declared.tokens.TokenKind.TheVariants as kind
-use Rattle.src_tree.specs.Trees.{Test}
-use Rattle.src_parser.specs.Parts.{Form}
-use Rattle.src_parser.specs.Statements.{Makers, Outer, InFirst, Ready, MayElse, InPart, Guarded, Otherwise, Blocks, Among, depth_in, depth_of, leaving, between_statements, chosen, elsing, with_part, entering, otherwise, performed}
-use Rattle.src_parser.specs.Tokenwise.{Wrong, TooMuch}
+use Rattle.src_tree.specs.Prelude.{Test}
+use Rattle.src_parser.specs.Prelude.{Form, Makers, Outer, InFirst, Ready, MayElse, InPart, Guarded, Otherwise, Blocks, Among, depth_in, depth_of, leaving, between_statements, chosen, elsing, with_part, entering, otherwise, performed, Wrong, TooMuch}
 use Rattle.src_parser.proofs.Tokenwise.{Shape}
 use Rattle.src_parser.proofs.Rooms.{constant, wrong_not_much, brace_room, mapped_shape, part_shape}
+use Rattle.src_lexer.specs.declared.tokens.TokenKind.TheVariants as kind
 
 module _ {S : Type 0} (make : Makers S) where
   leaving_not : (outer : List (Outer S)) (here : List S) → leaving make outer here ≢ TooMuch

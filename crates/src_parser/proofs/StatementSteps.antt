@@ -3,16 +3,13 @@ use Rattle.std.proofs.Common.{◌≡◌, ℕ, ◌+◌, ◌<◌, Bool, true, fals
 use Rattle.std.proofs.lemmas.List.{append-nil}
 use Rattle.std.proofs.lemmas.Bool.{ltb-true}
 use Rattle.src_lexer.specs.declared.tokens.TokenKind.{TokenKind}
-use Rattle.src_lexer.specs.declared.tokens.TokenKind.TheVariants as kind
-use Rattle.src_tree.specs.Trees.{Test}
-use Rattle.src_parser.specs.Grammar.{Limits, Compares}
-use Rattle.src_parser.specs.Parts.{Form, ForChoice, ForLoop, PartState, Still, Done, part_advanced}
-use Rattle.src_parser.specs.Statements.{Makers, Outer, Otherwise, Blocks, Among, depth_in, leaving, between_statements, chosen, elsing, with_part, entering, otherwise, performed}
-use Rattle.src_parser.specs.Tokenwise.{Goes, with_braces}
+use Rattle.src_tree.specs.Prelude.{Test}
+use Rattle.src_parser.specs.Prelude.{Limits, Compares, Form, ForChoice, ForLoop, PartState, Still, Done, part_advanced, Makers, Outer, Otherwise, Blocks, Among, depth_in, leaving, between_statements, chosen, elsing, with_part, entering, otherwise, performed, Goes, with_braces}
 use Rattle.src_parser.proofs.Braces.{mapped_goes}
 use Rattle.src_parser.proofs.PartTokens.{word_of, IsTarget, IsGuarding, MakesVariable, MakesElement, MakesGuard, StateStands, part_steps}
 use Rattle.src_parser.proofs.Spelled.{Spelled, NoneLeft, Assigns, Stores, Decides, DecidesElse, Loops}
 use Rattle.src_parser.proofs.StatementsStanding.{Enclosed, Top, First, Second, Looped, IsReady, IsMayElse, IsPart, IsGuarded, IsOtherwise, StatementsStand, InBlock, enclosed_depth, one_statement}
+use Rattle.src_lexer.specs.declared.tokens.TokenKind.TheVariants as kind
 
 module _ {S : Type 0} {make : Makers S} {Own : List TokenKind → S → Type 0} {most : Limits} {outside : ℕ} where
   went : {tokens : List TokenKind} (x y : Blocks S) → Goes x ≡ Goes y → StatementsStand make Own most outside x tokens → StatementsStand make Own most outside y tokens

@@ -4,15 +4,11 @@ use Rattle.std.specs.Prelude.{nat_lt}
 use Rattle.std.proofs.lemmas.List.{append-nil}
 use Rattle.std.proofs.lemmas.Bool.{lt-ltb}
 use Rattle.src_lexer.specs.declared.tokens.TokenKind.{TokenKind}
-use Rattle.src_lexer.specs.declared.tokens.TokenKind.TheVariants as kind
-use Rattle.src_tree.specs.Trees.{Test}
-use Rattle.src_parser.specs.Grammar.{Limits}
-use Rattle.src_parser.specs.Operands.{Reading, reads}
-use Rattle.src_parser.specs.Parts.{ForChoice, ForLoop, Asked, Target, Guarding, Inside}
-use Rattle.src_parser.specs.Statements.{Makers, Outer, InFirst, InSecond, InLoop, Ready, MayElse, InPart, Guarded, Otherwise, Blocks, Among, depth_in, between_statements, chosen, elsing, with_part, complete_of, performed}
-use Rattle.src_parser.specs.Tokenwise.{Goes, mapped, with_braces}
+use Rattle.src_tree.specs.Prelude.{Test}
+use Rattle.src_parser.specs.Prelude.{Limits, Reading, reads, ForChoice, ForLoop, Asked, Target, Guarding, Inside, Makers, Outer, InFirst, InSecond, InLoop, Ready, MayElse, InPart, Guarded, Otherwise, Blocks, Among, depth_in, between_statements, chosen, elsing, with_part, complete_of, performed, Goes, mapped, with_braces}
 use Rattle.src_parser.proofs.PartRead.{PartRuns, variable_read, element_read, guard_read}
 use Rattle.src_parser.proofs.Spelled.{Spelled, NoneLeft, Assigns, Stores, Decides, DecidesElse, Loops, Adds}
+use Rattle.src_lexer.specs.declared.tokens.TokenKind.TheVariants as kind
 
 -- tokens that don't begin with `else`
 abbrev pub NoElse : List TokenKind → Type 0

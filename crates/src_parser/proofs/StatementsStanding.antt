@@ -3,14 +3,12 @@
 use Rattle.std.proofs.Common.{◌≡◌, ℕ, ◌+◌, ◌<◌, List, [], ◌∷◌, ◌++◌, Some, refl, sym, ap, ◌∙◌, subst, append_assoc, arith}
 use Rattle.std.proofs.lemmas.List.{append-nil}
 use Rattle.src_lexer.specs.declared.tokens.TokenKind.{TokenKind}
-use Rattle.src_lexer.specs.declared.tokens.TokenKind.TheVariants as kind
-use Rattle.src_tree.specs.Trees.{Test}
-use Rattle.src_parser.specs.Grammar.{Limits, Compares}
-use Rattle.src_parser.specs.Parts.{Form, ForChoice, ForLoop, Part, Made}
-use Rattle.src_parser.specs.Statements.{Makers, Outer, InFirst, InSecond, InLoop, Phase, Ready, MayElse, InPart, Guarded, Otherwise, Blocks, Among, depth_in, depth_of, chosen, complete_of}
+use Rattle.src_tree.specs.Prelude.{Test}
+use Rattle.src_parser.specs.Prelude.{Limits, Compares, Form, ForChoice, ForLoop, Part, Made, Makers, Outer, InFirst, InSecond, InLoop, Phase, Ready, MayElse, InPart, Guarded, Otherwise, Blocks, Among, depth_in, depth_of, chosen, complete_of}
 use Rattle.src_parser.proofs.Held.{HasNoName, no_name_in_both}
 use Rattle.src_parser.proofs.PartTokens.{word_of, PartStands, Makes, MakesVariable, MakesElement, MakesGuard, PartCompletes, part_completes}
 use Rattle.src_parser.proofs.Spelled.{Spelled, NoneLeft, Assigns, Stores, Decides, DecidesElse, Loops, spelled_at, spelled_both}
+use Rattle.src_lexer.specs.declared.tokens.TokenKind.TheVariants as kind
 
 -- these tokens lead into these open blocks, of the depth `depth`, with these statements in the innermost
 pub data Enclosed {S : Type 0} (make : Makers S) (Own : List TokenKind → S → Type 0) (most : Limits) (outside : ℕ)

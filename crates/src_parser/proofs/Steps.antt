@@ -4,14 +4,9 @@ use Rattle.std.specs.Prelude.{option_map}
 use Rattle.std.proofs.lemmas.List.{append-nil}
 use Rattle.gr_word.specs.declared.variables.Label.TheVariants.{Public, Secret}
 use Rattle.src_lexer.specs.declared.tokens.TokenKind.{TokenKind}
-use Rattle.src_lexer.specs.declared.tokens.TokenKind.TheVariants as kind
 use Rattle.src_tree.specs.declared.trees.Decl.{Decl}
-use Rattle.src_tree.specs.Trees.{Statement, Source}
-use Rattle.src_parser.specs.Grammar.{Limits, Ends, Declares, NoMore, Sentence, Program}
-use Rattle.src_parser.specs.Headings.{HeadingState, Begun, Declared, heading_advanced}
-use Rattle.src_parser.specs.Statements.{Blocks, between_statements, performed, complete_of}
-use Rattle.src_parser.specs.Tokenwise.{Goes, mapped}
-use Rattle.src_parser.specs.Advances.{ParserState, Between, Doing, programs, between, with_heading, advanced, source_made, program_of}
+use Rattle.src_tree.specs.Prelude.{Statement, Source}
+use Rattle.src_parser.specs.Prelude.{Limits, Ends, Declares, NoMore, Sentence, Program, HeadingState, Begun, Declared, heading_advanced, Blocks, between_statements, performed, complete_of, Goes, mapped, ParserState, Between, Doing, programs, between, with_heading, advanced, source_made, program_of}
 use Rattle.src_parser.proofs.Braces.{mapped_goes}
 use Rattle.src_parser.proofs.HeadingTokens.{declares_both, IsLabelled, HeadingStands, heading_steps}
 use Rattle.src_parser.proofs.Spelled.{Spelled, NoneLeft}
@@ -19,6 +14,7 @@ use Rattle.src_parser.proofs.Standing.{Standing, InBetween, InHeading, InStateme
 use Rattle.src_parser.proofs.StatementsStanding.{StatementsStand, Top, complete_spelled}
 use Rattle.src_parser.proofs.StatementSteps.{beginning_stands, statements_step}
 use Rattle.src_parser.proofs.Written.{NoOwn, spelled_written}
+use Rattle.src_lexer.specs.declared.tokens.TokenKind.TheVariants as kind
 
 went : {most : Limits} {tokens : List TokenKind} (x y : ParserState)
     → Goes x ≡ Goes y → Standing most x tokens → Standing most y tokens

@@ -3,14 +3,12 @@ use Rattle.std.proofs.Common.{◌≡◌, ◌⊎◌, inl, inr, ℕ, List, [], ◌
 use Rattle.std.proofs.lemmas.List.{append-nil}
 use Rattle.src_lexer.specs.declared.tokens.Token.{Token}
 use Rattle.src_lexer.specs.declared.errors.LexError.{LexError}
-use Rattle.src_lexer.specs.declared.errors.LexError.TheVariants as piece
-use Rattle.src_lexer.specs.Splits.{Splits}
-use Rattle.src_lexer.specs.Unread.{Unread, BeginsWith}
+use Rattle.src_lexer.specs.Prelude.{Splits, Unread, BeginsWith}
 use Rattle.src_lexer.proofs.Unread.{begins_with_both, all_of_them, fault_after, tokens_before}
-use Rattle.src_parser.specs.Readers.{ErrsFirst}
-use Rattle.src_parser.specs.Source.{HasTokens, ExplainsTextBy}
+use Rattle.src_parser.specs.Prelude.{ErrsFirst, HasTokens, ExplainsTextBy}
 use Rattle.src_parser.specs.declared.errors.ParseError.{ParseError}
 use Rattle.src_parser.specs.declared.errors.TextError.{TextError}
+use Rattle.src_lexer.specs.declared.errors.LexError.TheVariants as piece
 use Rattle.src_parser.specs.declared.errors.TextError.TheVariants as text
 
 -- a text of which nothing is read

@@ -2,7 +2,7 @@
 use Rattle.std.proofs.Common.{◌≡◌, ℕ, ◌+◌, ◌<◌, List, [], ◌∷◌, ◌++◌, length, take, drop, get_or, sym, ap, ◌∙◌, append_assoc}
 use Rattle.std.proofs.lemmas.List.{take_more, take-append-drop, map-append}
 use Rattle.src_lexer.specs.declared.tokens.Token.{Token}
-use Rattle.src_parser.specs.Refusals.{token_kinds}
+use Rattle.src_parser.specs.Prelude.{token_kinds}
 
 read_so_far : (tokens : List Token) (i : ℕ) (token : Token)
     → i < length tokens → token ≡ get_or tokens i token → take (i + 1) tokens ≡ take i tokens ++ token ∷ []

@@ -3,11 +3,9 @@ use Rattle.std.proofs.Common.{◌≡◌, ◌≢◌, ◌⊎◌, inl, inr, ℕ, �
 use Rattle.std.proofs.lemmas.Bool.{cases_lt}
 use Rattle.std.proofs.lemmas.List.{append-nil, map-append}
 use Rattle.src_lexer.specs.declared.tokens.TokenKind.{TokenKind}
-use Rattle.src_lexer.specs.declared.tokens.TokenKind.TheVariants as kind
 use Rattle.src_lexer.specs.declared.tokens.Token.{Token}
-use Rattle.src_parser.specs.Grammar.{Limits, limits}
-use Rattle.src_parser.specs.Refusals.{token_kinds, Shallow}
-use Rattle.src_parser.specs.Tokenwise.{Advance, Goes, Wrong, TooMuch, then_advance, advances, after_advance, parsed, Completes, Begins}
+use Rattle.src_parser.specs.Prelude.{Limits, limits, token_kinds, Shallow, Advance, Goes, Wrong, TooMuch, then_advance, advances, after_advance, parsed, Completes, Begins}
+use Rattle.src_lexer.specs.declared.tokens.TokenKind.TheVariants as kind
 
 -- there is room for what is needed
 pub record Fits (need most : Limits) : Type 0 where

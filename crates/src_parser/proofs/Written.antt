@@ -1,9 +1,8 @@
 -- The statements of programs by their grammar, as those of any language.
 use Rattle.std.proofs.Common.{◌≡◌, ℕ, List, [], ◌∷◌, refl, ap, subst}
 use Rattle.src_lexer.specs.declared.tokens.TokenKind.{TokenKind}
-use Rattle.src_tree.specs.Trees.{Statement, Choice, Loop, Block, Nothing, Then, block_of}
-use Rattle.src_parser.specs.Advances.{programs}
-use Rattle.src_parser.specs.Grammar.{Limits, Writes, Ends, Sets, Puts, Chooses, ChoosesElse, Repeats}
+use Rattle.src_tree.specs.Prelude.{Statement, Choice, Loop, Block, Nothing, Then, block_of}
+use Rattle.src_parser.specs.Prelude.{programs, Limits, Writes, Ends, Sets, Puts, Chooses, ChoosesElse, Repeats}
 use Rattle.src_parser.proofs.Spelled.{Spelled, NoneLeft, Assigns, Stores, Decides, DecidesElse, Loops, Adds}
 
 -- programs have no statements besides assignments, choices and loops

@@ -2,8 +2,8 @@
 use Rattle.std.specs.Prelude.{List}
 use Rattle.src_lexer.specs.declared.tokens.Token.{Token}
 use Rattle.src_parser.specs.declared.errors.ParseError.{ParseError}
-use Rattle.src_parser.specs.declared.errors.ParseError.TheVariants as error
 use Rattle.src_parser.specs.Refusals.{Unexpected, TooDeep, CutShort}
+use Rattle.src_parser.specs.declared.errors.ParseError.TheVariants as error
 
 abbrev pub ExplainsTokens : ParseError → List Token → Type 0
 ExplainsTokens (error.Unexpected at) tokens = Unexpected tokens at

@@ -8,9 +8,9 @@ use Rattle.gr_word.specs.declared.operations.Cmp.TheVariants.{Eq, Ne, Lt, Le, Gt
 use Rattle.gr_word.specs.declared.variables.Label.{Label}
 use Rattle.gr_word.specs.declared.variables.Label.TheVariants.{Public, Secret}
 use Rattle.src_lexer.specs.declared.tokens.TokenKind.{TokenKind}
-use Rattle.src_lexer.specs.declared.tokens.TokenKind.TheVariants as kind
 use Rattle.src_tree.specs.declared.trees.Decl.{Decl}
 use Rattle.src_tree.specs.Trees.{Tree, Number, Variable, Element, Operation, Test, Block, Nothing, Then, SetVariable, SetElement, Choice, Loop, Source}
+use Rattle.src_lexer.specs.declared.tokens.TokenKind.TheVariants as kind
 
 -- limits of nesting: how many parentheses, brackets and signs may be open in one statement's own expressions, how many
 -- braces may be open, and how many operators and signs one statement's own expressions may have
@@ -46,10 +46,7 @@ level_of Shl = 3
 level_of Shr = 3
 level_of Add = 4
 level_of Sub = 4
-level_of Mul = 5
-level_of Div = 5
-level_of Rem = 5
-level_of Remu = 5
+level_of other = 5
 
 -- the comparison of a sign
 abbrev pub comparison_of : TokenKind → Option Cmp

@@ -3,9 +3,9 @@
 use Rattle.std.specs.Prelude.{ℕ, pos, List, Option, Some, None}
 use Rattle.gr_word.specs.declared.variables.Label.{Label}
 use Rattle.src_lexer.specs.declared.tokens.TokenKind.{TokenKind}
-use Rattle.src_lexer.specs.declared.tokens.TokenKind.TheVariants as kind
 use Rattle.src_tree.specs.declared.trees.Decl.{Decl}
 use Rattle.src_parser.specs.Tokenwise.{Advance, Goes, Wrong}
+use Rattle.src_lexer.specs.declared.tokens.TokenKind.TheVariants as kind
 
 -- how far a declaration was read
 pub data Heading : Type 0 where
@@ -27,15 +27,10 @@ declared label name size = record { name = name; label = label; length = size }
 -- a token of a declaration
 abbrev pub heading_advanced : Heading → TokenKind → Advance HeadingState
 heading_advanced (Labelled label) kind.Int = Goes (Begun (Typed label))
-heading_advanced (Labelled label) _ = Wrong
 heading_advanced (Typed label) (kind.Word name) = Goes (Begun (Titled label name))
-heading_advanced (Typed label) _ = Wrong
 heading_advanced (Titled label name) kind.Semi = Goes (Declared (declared label name None))
 heading_advanced (Titled label name) kind.LBracket = Goes (Begun (Sizing label name))
-heading_advanced (Titled label name) _ = Wrong
 heading_advanced (Sizing label name) (kind.Num (pos n)) = Goes (Begun (Sized label name n))
-heading_advanced (Sizing label name) _ = Wrong
 heading_advanced (Sized label name n) kind.RBracket = Goes (Begun (Closing label name n))
-heading_advanced (Sized label name n) _ = Wrong
 heading_advanced (Closing label name n) kind.Semi = Goes (Declared (declared label name (Some n)))
-heading_advanced (Closing label name n) _ = Wrong
+heading_advanced other _ = Wrong

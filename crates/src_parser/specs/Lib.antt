@@ -14,3 +14,4 @@ pub mod ReadTokens
 pub mod Tokenwise
 pub mod Assignments
 pub mod Readers
+pub mod Prelude

@@ -3,11 +3,11 @@
 use Rattle.std.specs.Prelude.{ℕ, List, [], Option, Some, None}
 use Rattle.gr_word.specs.declared.operations.Cmp.{Cmp}
 use Rattle.src_lexer.specs.declared.tokens.TokenKind.{TokenKind}
-use Rattle.src_lexer.specs.declared.tokens.TokenKind.TheVariants as kind
 use Rattle.src_tree.specs.Trees.{Tree, Test}
 use Rattle.src_parser.specs.Grammar.{Limits, comparison_of}
 use Rattle.src_parser.specs.Tokenwise.{Advance, Goes, Wrong, TooMuch}
 use Rattle.src_parser.specs.Operands.{Reading, At, Wanted, TokenStep, Moves, Stops, Deep, reads, whole, used_of}
+use Rattle.src_lexer.specs.declared.tokens.TokenKind.TheVariants as kind
 
 -- whether a guard belongs to a choice or to a loop
 pub data Form : Type 0 where
@@ -68,15 +68,12 @@ comparing form left used None = Wrong
 -- a token after the whole expression
 abbrev pub behind_expression : Asked → Tree → ℕ → TokenKind → Advance PartState
 behind_expression (Value name) tree used kind.Semi = Goes (Done (VariableSet name tree))
-behind_expression (Value name) tree used _ = Wrong
 behind_expression (Place name) tree used kind.RBracket = Goes (Still (Placed name tree used))
-behind_expression (Place name) tree used _ = Wrong
 behind_expression (Stored name index) tree used kind.Semi = Goes (Done (ElementSet name index tree))
-behind_expression (Stored name index) tree used _ = Wrong
 behind_expression (Left form) tree used k = comparing form tree used (comparison_of k)
 behind_expression (Right form cmp left) tree used kind.RParen =
     Goes (Done (GuardRead form (record { cmp = cmp; left = left; right = tree })))
-behind_expression (Right form cmp left) tree used _ = Wrong
+behind_expression other tree used _ = Wrong
 
 abbrev pub ending_where : Asked → Option Tree → ℕ → TokenKind → Advance PartState
 ending_where asked None used k = Wrong

@@ -2,13 +2,13 @@
 use Rattle.std.specs.Prelude.{◌≡◌, ◌≢◌, ℕ, ◌+◌, ◌^◌, ◌<◌, ◌≤◌, pos, negsuc, List, [], ◌∷◌, length, Option, Some, None, IsTrue}
 use Rattle.gr_word.specs.Names.{is_name}
 use Rattle.gr_word.specs.declared.operations.Op.TheVariants.{Remu}
-use Rattle.src_lexer.specs.declared.tokens.TokenKind.TheVariants as kind
 use Rattle.src_lexer.specs.Pieces.{letter_run_of, Is}
 use Rattle.src_tree.specs.declared.trees.Decl.{Decl}
 use Rattle.src_tree.specs.Trees.{Tree, Number, Variable, Element, Operation, Test, Statement, SetVariable, SetElement, Choice, Loop, Block, Nothing, Then, Source}
 use Rattle.src_tree.specs.Heights.{height_of}
 use Rattle.src_tree.specs.Printed.{source_text}
 use Rattle.src_parser.specs.Grammar.{operators}
+use Rattle.src_lexer.specs.declared.tokens.TokenKind.TheVariants as kind
 
 -- a name that isn't a keyword
 pub record IsFree (name : List ℕ) : Type 0 where

@@ -1,10 +1,10 @@
 -- For the proofs and for private clauses only: several tokens of an expression, and the expression that they end.
 use Rattle.std.specs.Prelude.{List, [], ◌∷◌, Option, None}
 use Rattle.src_lexer.specs.declared.tokens.TokenKind.{TokenKind}
-use Rattle.src_lexer.specs.declared.tokens.TokenKind.TheVariants as kind
 use Rattle.src_tree.specs.Trees.{Tree}
 use Rattle.src_parser.specs.Grammar.{Limits}
 use Rattle.src_parser.specs.Operands.{Reading, TokenStep, Moves, Stops, Deep, reads, whole}
+use Rattle.src_lexer.specs.declared.tokens.TokenKind.TheVariants as kind
 
 abbrev pub then_read : TokenStep → (Reading → TokenStep) → TokenStep
 then_read (Moves x) next = next x

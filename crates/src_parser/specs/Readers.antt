@@ -3,15 +3,15 @@
 use Rattle.std.specs.Prelude.{◌≡◌, ◌⊎◌, ℕ, List, ◌∷◌, ◌++◌, Ok, Err}
 use Rattle.src_lexer.specs.declared.tokens.TokenKind.{TokenKind}
 use Rattle.src_lexer.specs.declared.tokens.Token.{Token}
-use Rattle.src_lexer.specs.declared.errors.LexError.TheVariants as piece
 use Rattle.src_lexer.specs.Splits.{Splits}
 use Rattle.src_lexer.specs.Unread.{Unread}
 use Rattle.src_parser.specs.Grammar.{Limits, limits}
 use Rattle.src_parser.specs.Refusals.{token_kinds}
 use Rattle.src_parser.specs.Tokenwise.{Advance, Goes, Wrong, TooMuch, advances}
 use Rattle.src_parser.specs.declared.errors.ParseError.{ParseError}
-use Rattle.src_parser.specs.declared.errors.ParseError.TheVariants as error
 use Rattle.src_parser.specs.declared.errors.TextError.{TextError}
+use Rattle.src_lexer.specs.declared.errors.LexError.TheVariants as piece
+use Rattle.src_parser.specs.declared.errors.ParseError.TheVariants as error
 use Rattle.src_parser.specs.declared.errors.TextError.TheVariants as text
 
 -- these tokens lead from a state to another one

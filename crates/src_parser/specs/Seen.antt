@@ -2,6 +2,12 @@
 -- statements and their parts, and of declarations.
 use Rattle.std.specs.Prelude.{List, map, reverse}
 use Rattle.src_tree.specs.Trees.{expr_tree, test_of, statement_of}
+use Rattle.src_parser.specs.Headings.{Heading, Labelled, Typed, Titled, Sizing, Sized, Closing, HeadingState, Begun, Declared}
+use Rattle.src_parser.specs.Parts.{Form, ForChoice, ForLoop, Asked, Value, Place, Stored, Left, Right, Part, Target, Placed, Guarding, Inside, Made, VariableSet, ElementSet, GuardRead, PartState, Still, Done}
+use Rattle.src_parser.specs.Statements.{Outer, InFirst, InSecond, InLoop, Phase, Ready, MayElse, InPart, Guarded, Otherwise, Blocks, Among}
+use Rattle.src_parser.specs.Advances.{ParserState, Between, Declaring, Doing}
+use Rattle.src_parser.specs.Tokenwise.{Advance, Goes, Wrong, TooMuch}
+use Rattle.src_parser.specs.Operands.{Waiting, Open, Index, Sign, Pending, OperandState, Wanted, Named, Given, Reading, At, TokenStep, Moves, Stops, Deep, Joint, Joins}
 use Rattle.src_parser.specs.declared.readings.Waiting.TheVariants as frame
 use Rattle.src_parser.specs.declared.readings.OperandState.TheVariants as operand
 use Rattle.src_parser.specs.declared.readings.TokenStep.TheVariants as step
@@ -37,12 +43,6 @@ use Rattle.src_parser.specs.declared.states.ParserState.TheVariants as state
 use Rattle.src_parser.specs.declared.states.Advance as advances
 use Rattle.src_parser.specs.declared.states.Advance.TheVariants as advance
 use Rattle.src_parser.specs.declared.states.Blocks as blocks
-use Rattle.src_parser.specs.Headings.{Heading, Labelled, Typed, Titled, Sizing, Sized, Closing, HeadingState, Begun, Declared}
-use Rattle.src_parser.specs.Parts.{Form, ForChoice, ForLoop, Asked, Value, Place, Stored, Left, Right, Part, Target, Placed, Guarding, Inside, Made, VariableSet, ElementSet, GuardRead, PartState, Still, Done}
-use Rattle.src_parser.specs.Statements.{Outer, InFirst, InSecond, InLoop, Phase, Ready, MayElse, InPart, Guarded, Otherwise, Blocks, Among}
-use Rattle.src_parser.specs.Advances.{ParserState, Between, Declaring, Doing}
-use Rattle.src_parser.specs.Tokenwise.{Advance, Goes, Wrong, TooMuch}
-use Rattle.src_parser.specs.Operands.{Waiting, Open, Index, Sign, Pending, OperandState, Wanted, Named, Given, Reading, At, TokenStep, Moves, Stops, Deep, Joint, Joins}
 
 abbrev pub frame_of : frames.Waiting → Waiting
 frame_of (frame.Open depth) = Open depth

@@ -1,15 +1,15 @@
 -- A source text: it splits into tokens, and these are a program; or its first error (this project's profile).
 use Rattle.std.specs.Prelude.{◌≡◌, ◌⊎◌, ℕ, List, Ok, Err}
 use Rattle.src_lexer.specs.declared.tokens.Token.{Token}
-use Rattle.src_lexer.specs.declared.errors.LexError.TheVariants as piece
 use Rattle.src_lexer.specs.Splits.{Splits}
 use Rattle.src_tree.specs.Trees.{Source}
 use Rattle.src_parser.specs.Explained.{ExplainsTokens}
 use Rattle.src_parser.specs.Grammar.{limits, Sentence}
 use Rattle.src_parser.specs.Refusals.{token_kinds}
 use Rattle.src_parser.specs.declared.errors.ParseError.{ParseError}
-use Rattle.src_parser.specs.declared.errors.ParseError.TheVariants as token
 use Rattle.src_parser.specs.declared.errors.TextError.{TextError}
+use Rattle.src_lexer.specs.declared.errors.LexError.TheVariants as piece
+use Rattle.src_parser.specs.declared.errors.ParseError.TheVariants as token
 use Rattle.src_parser.specs.declared.errors.TextError.TheVariants as error
 
 -- a text encodes a program

@@ -1,11 +1,11 @@
 -- For the proofs and for private clauses, and for parsers of larger languages: how statements are read token by token.
 use Rattle.std.specs.Prelude.{ℕ, ◌+◌, nat_lt, Bool, true, false, List, [], ◌∷◌, ◌++◌, length, Option, Some, None}
 use Rattle.src_lexer.specs.declared.tokens.TokenKind.{TokenKind}
-use Rattle.src_lexer.specs.declared.tokens.TokenKind.TheVariants as kind
 use Rattle.src_tree.specs.Trees.{Tree, Test}
 use Rattle.src_parser.specs.Grammar.{Limits}
 use Rattle.src_parser.specs.Parts.{Form, ForChoice, ForLoop, Part, Target, Guarding, VariableSet, ElementSet, GuardRead, PartState, Still, Done, part_advanced}
 use Rattle.src_parser.specs.Tokenwise.{Advance, Goes, Wrong, mapped, with_braces}
+use Rattle.src_lexer.specs.declared.tokens.TokenKind.TheVariants as kind
 
 -- how a language makes its statements
 pub record Makers (S : Type 0) : Type 0 where

@@ -3,7 +3,7 @@
 
 ghost use Rattle.std.specs.Prelude.{◌≡◌, ◌≤◌, ◌∷◌, take, length, IfOk, IfSome, true};
 ghost use Rattle.src_lexer.specs.declared.tokens.TokenKind.TheVariants.{Word, Assign, LBracket, RBracket, Semi};
-ghost use Rattle.src_tree.specs.Trees.{expr_tree, statement_of};
+ghost use Rattle.src_tree.specs.Prelude.{expr_tree, statement_of};
 ghost use Rattle.src_parser.specs.Assignments.{Adds, EndedBy, Leads};
 ghost use Rattle.src_parser.specs.Expressions.{FoundExpression};
 ghost use Rattle.src_parser.specs.Refusals.{token_kinds};

@@ -1,5 +1,5 @@
 ghost use Rattle.std.specs.Prelude.{◌≡◌, ◌<◌, ◌+◌, ◌-◌, ◌^◌, ◌∷◌, [], IfOk, pos, option_map};
-ghost use Rattle.src_tree.specs.Trees.{expr_tree, Operation, Number, Element};
+ghost use Rattle.src_tree.specs.Prelude.{expr_tree, Operation, Number, Element};
 ghost use Rattle.gr_word.specs.declared.operations.Op.TheVariants.{Sub};
 ghost use Rattle.src_lexer.specs.declared.tokens.TokenKind.TheVariants.{Num, LParen, RParen, LBracket, RBracket, Minus};
 ghost use Rattle.src_parser.specs.Grammar.{limits, level_of, operator_of};

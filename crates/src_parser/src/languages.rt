@@ -1,5 +1,5 @@
 ghost use Rattle.std.specs.Prelude.{◌≡◌, ℕ, List, map};
-ghost use Rattle.src_tree.specs.Trees.{Tree, Test, expr_tree, test_of};
+ghost use Rattle.src_tree.specs.Prelude.{Tree, Test, expr_tree, test_of};
 ghost use Rattle.src_parser.specs.Statements.{Makers};
 
 use gr_word::Name;

@@ -1,7 +1,7 @@
 ghost use Rattle.std.specs.Prelude.{◌≡◌, ◌≢◌, ℕ, List, Err};
 ghost use Rattle.src_lexer.specs.declared.tokens.TokenKind.{TokenKind};
 ghost use Rattle.src_lexer.specs.declared.tokens.Token.{Token};
-ghost use Rattle.src_lexer.specs.Splits.{Splits};
+ghost use Rattle.src_lexer.specs.Prelude.{Splits};
 ghost use Rattle.src_lexer.specs.declared.errors.LexError.{LexError};
 ghost use Rattle.src_parser.specs.declared.errors.ParseError.{ParseError};
 ghost use Rattle.src_parser.specs.declared.errors.ParseError.TheVariants.{Memory};
@@ -9,9 +9,8 @@ ghost use Rattle.src_parser.specs.Explained.{ExplainsTokens};
 ghost use Rattle.src_parser.specs.Grammar.{limits, Sentence};
 ghost use Rattle.src_parser.specs.Printable.{IsPrintable};
 ghost use Rattle.src_parser.specs.Source.{SpellsSource};
-ghost use Rattle.src_tree.specs.Printed.{source_text};
+ghost use Rattle.src_tree.specs.Prelude.{source_text, Source};
 ghost use Rattle.src_parser.specs.Refusals.{token_kinds, Unexpected, TooDeep, CutShort};
-ghost use Rattle.src_tree.specs.Trees.{Source};
 
 /// A law: tokens are at most one program.
 pub fn one_tree()

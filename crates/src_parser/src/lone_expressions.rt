@@ -1,5 +1,5 @@
 ghost use Rattle.std.specs.Prelude.{◌≡◌, ◌-◌, ◌^◌, ◌<◌, ◌≤◌, IfOk, IfErr, drop, length, option_map};
-ghost use Rattle.src_tree.specs.Trees.{expr_tree};
+ghost use Rattle.src_tree.specs.Prelude.{expr_tree};
 ghost use Rattle.src_parser.specs.Expressions.{FoundExpression, ExplainsExpression};
 ghost use Rattle.src_parser.specs.Grammar.{limits};
 ghost use Rattle.src_parser.specs.ReadTokens.{ended};

@@ -1,5 +1,5 @@
 ghost use Rattle.std.specs.Prelude.{◌≡◌, [], IfOk, IfErr, OnOk, option_map};
-ghost use Rattle.src_tree.specs.Trees.{source_of, statement_of};
+ghost use Rattle.src_tree.specs.Prelude.{source_of, statement_of};
 ghost use Rattle.src_parser.specs.Explained.{ExplainsTokens};
 ghost use Rattle.src_parser.specs.Grammar.{limits, Sentence};
 ghost use Rattle.src_parser.specs.Readers.{ReadsTo, Stops};

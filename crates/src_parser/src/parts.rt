@@ -1,5 +1,5 @@
 ghost use Rattle.std.specs.Prelude.{◌≡◌, IfOk};
-ghost use Rattle.src_tree.specs.Trees.{expr_tree};
+ghost use Rattle.src_tree.specs.Prelude.{expr_tree};
 ghost use Rattle.src_parser.specs.Grammar.{limits, comparison_of};
 ghost use Rattle.src_parser.specs.Parts.{behind_expression, comparing, part_advanced};
 ghost use Rattle.src_parser.specs.Seen.{asked_seen, form_of, lead_of, part_of, part_advance_of};

@@ -1,5 +1,5 @@
 ghost use Rattle.std.specs.Prelude.{◌≡◌, ◌+◌, ◌++◌, ◌∷◌, [], IfOk, length, map, nat_lt, option_map};
-ghost use Rattle.src_tree.specs.Trees.{test_of};
+ghost use Rattle.src_tree.specs.Prelude.{test_of};
 ghost use Rattle.src_parser.specs.Grammar.{limits};
 ghost use Rattle.src_parser.specs.Parts.{Done};
 ghost use Rattle.src_parser.specs.Seen.{advance_of, among, form_of, made_of, outer_of, outers_of, pause_of, phase_of};

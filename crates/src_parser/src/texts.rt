@@ -2,7 +2,7 @@
 //! text.
 
 ghost use Rattle.std.specs.Prelude.{◌≤◌, ◌^◌, length, IfOk, IfErr};
-ghost use Rattle.src_tree.specs.Trees.{source_of};
+ghost use Rattle.src_tree.specs.Prelude.{source_of};
 ghost use Rattle.src_parser.specs.Readers.{ErrsFirst};
 ghost use Rattle.src_parser.specs.Source.{SpellsSource, HasTokens, ExplainsText, ExplainsTextBy};
 

@@ -6,19 +6,16 @@ use Rattle.std.specs.Borrow.{Bor}
 use Rattle.std.specs.BTreeMap.{BTreeMap, get, is_at}
 use Rattle.std.proofs.lemmas.Slice.Eq.{bytes_eq-Decides}
 use Rattle.gr_base.proofs.NameMaps.{key_cmp, name_added}
-use Rattle.gr_base.specs.NameMaps.{found_under}
+use Rattle.gr_base.specs.Prelude.{found_under}
 use Rattle.src_procs.proofs.NumbersAdded.{flipped}
 use Rattle.std.proofs.lemmas.List.{append-nil, length_push}
 use Rattle.gr_word.specs.declared.variables.Label.{Label}
 use Rattle.src_tree.specs.declared.trees.Decl.{Decl}
-use Rattle.src_tree.specs.Trees as plain
-use Rattle.src_tree.specs.Trees.{Tree, Number}
+use Rattle.src_tree.specs.Prelude.{Tree, Number}
 use Rattle.std.proofs.Math.Path.{fun_ext}
-use Rattle.src_procs.specs.Trees.{Parameter, OfValue, OfVariable, Procedure}
-use Rattle.src_procs.specs.Frames.{naming_locals, naming_all, named_by, new_values, new_labels}
-use Rattle.src_procs.specs.Inlined.{Renaming, renamed, assigned, new_name, no_name}
-use Rattle.src_procs.specs.Expanding.{Binding, Bound, bound_after, nothing_bound, with_new, with_alias, with_locals, with_parameters, looked_up, statements_of, put, Scope, begun}
+use Rattle.src_procs.specs.Prelude.{Parameter, OfValue, OfVariable, Procedure, naming_locals, naming_all, named_by, new_values, new_labels, Renaming, renamed, assigned, new_name, no_name, Binding, Bound, bound_after, nothing_bound, with_new, with_alias, with_locals, with_parameters, looked_up, statements_of, put, Scope, begun}
 use Rattle.src_procs.proofs.OneStep.{put_nothing, put_both, held, held_same}
+use Rattle.src_tree.specs.Trees as plain
 
 -- names before others
 abbrev onto : Bound → Renaming → Renaming
@@ -178,19 +175,6 @@ begun_made p earlier caller arguments scopes blocks labels made is =
       callable = earlier;
       names = naming_all new_name no_name caller (length labels) p.parameters arguments p.locals;
     } ∷ scopes) _ _ _ _ h.blocks_are h.labels_are
-
-bound_once : (o : Option (List ℕ)) (b : Bool) (to : List ℕ) → (b ≡ true → is_some o ≡ true)
-    → o ≡ option_or o (cond b (Some to) None)
-bound_once (Some x) b to h = refl
-bound_once None false to h = refl
-bound_once None true to h = let e = h refl in absurd (cc)
-
--- a name that is bound already
-pub bound_before : (bound : Bound) (name to : List ℕ) → is_some (bound name) ≡ true
-    → bound ≡ bound_after bound name to
-bound_before bound name to is =
-    fun_ext (λ y. bound_once (bound y) (bytes_eq y name) to
-    (λ e. ap (λ z. is_some (bound z)) ((bytes_eq-Decides y name).0 e) ∙ is))
 
 added_once : (o : Option (List ℕ)) (b : Bool) (to : List ℕ) → (b ≡ true → is_some o ≡ false)
     → cond b (Some to) o ≡ option_or o (cond b (Some to) None)

@@ -5,11 +5,7 @@ use Rattle.std.proofs.lemmas.Option.{same_Some}
 use Rattle.std.proofs.lemmas.Bool.{ltb-true, lt-ltb}
 use Rattle.src_procs.specs.declared.errors.InlineError.{InlineError}
 use Rattle.src_procs.specs.declared.errors.InlineError.TheVariants.{TooLarge}
-use Rattle.src_procs.specs.Trees.{File}
-use Rattle.src_procs.specs.Inlined.{inlined_file}
-use Rattle.src_procs.specs.Sizes.{statements_in}
-use Rattle.src_procs.specs.CallCauses.{HaveNone, ProcedureFault, max_statements, IsFirstCallFault, InProcedure, InCall, TooMany}
-use Rattle.src_procs.specs.InlineFaults.{none_named, procedures_fault, calls_fault, fault_where, inline_fault}
+use Rattle.src_procs.specs.Prelude.{File, inlined_file, statements_in, HaveNone, ProcedureFault, max_statements, IsFirstCallFault, InProcedure, InCall, TooMany, none_named, procedures_fault, calls_fault, fault_where, inline_fault}
 use Rattle.src_procs.proofs.NamesAgain.{procedure_found, procedure_only, procedures_clear, procedures_none}
 use Rattle.src_procs.proofs.FaultyCalls.{call_found, call_only, calls_clear, calls_none}
 

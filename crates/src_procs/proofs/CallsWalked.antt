@@ -4,15 +4,10 @@ use Rattle.std.specs.Prelude.{bytes_eq}
 use Rattle.std.specs.Option.{option_map}
 use Rattle.std.proofs.Math.Path.{fun_ext}
 use Rattle.std.proofs.lemmas.List.{take_more, take_all, length-map, reverse-append, drop_more}
-use Rattle.gr_base.specs.Results.{◌>>=◌}
+use Rattle.gr_base.specs.Prelude.{◌>>=◌}
 use Rattle.src_procs.specs.declared.errors.InlineError.{InlineError}
 use Rattle.src_procs.specs.declared.trees.Proc.{Proc}
-use Rattle.src_procs.specs.Trees.{Procedure}
-use Rattle.src_procs.specs.CallMeaning.{Names}
-use Rattle.src_procs.specs.Numbered.{AreNumbered, procedure_by_number}
-use Rattle.src_procs.specs.Seen.{procedure_of}
-use Rattle.src_procs.specs.Expanding.{Found, found}
-use Rattle.src_procs.specs.InlineFaults.{procedure_named, calls_walked_all, procedures_walked}
+use Rattle.src_procs.specs.Prelude.{Procedure, Names, AreNumbered, procedure_by_number, procedure_of, Found, found, procedure_named, calls_walked_all, procedures_walked}
 
 -- the procedure that a name calls
 named_found : (ps : List Procedure) (name : List ℕ)

@@ -4,13 +4,10 @@ use Rattle.std.proofs.Common.{◌≡◌, ℕ, ◌+◌, ◌≤◌, Bool, true, fa
 use Rattle.std.specs.Prelude.{bytes_eq}
 use Rattle.std.proofs.lemmas.List.{length-append}
 use Rattle.gr_word.specs.declared.variables.Label.{Label}
-use Rattle.src_tree.specs.Trees as plain
-use Rattle.src_tree.specs.Trees.{Tree}
-use Rattle.src_procs.specs.Trees.{Statement, SetVariable, SetElement, Choice, Loop, Call, Block, Nothing, Then, Procedure, File}
-use Rattle.src_procs.specs.Frames.{naming_all, new_values, new_labels}
-use Rattle.src_procs.specs.Inlined.{Renaming, Inlined, Inlines, blocks_joined, inlined, inlined_all, assigned, inlined_call, inlines_of, new_name, no_name, kept_name, inlined_body}
-use Rattle.src_procs.specs.Sizes.{statements_in, statements_in_one, CallSizes, size_of, size_of_all, sizes_of, file_size, HasSize}
+use Rattle.src_tree.specs.Prelude.{Tree}
+use Rattle.src_procs.specs.Prelude.{Statement, SetVariable, SetElement, Choice, Loop, Call, Block, Nothing, Then, Procedure, File, naming_all, new_values, new_labels, Renaming, Inlined, Inlines, blocks_joined, inlined, inlined_all, assigned, inlined_call, inlines_of, new_name, no_name, kept_name, inlined_body, statements_in, statements_in_one, CallSizes, size_of, size_of_all, sizes_of, file_size, HasSize}
 use Rattle.src_procs.proofs.Entering.{labels_long}
+use Rattle.src_tree.specs.Trees as plain
 
 joined_count : (a b : plain.Block) → statements_in (blocks_joined a b) ≡ statements_in a + statements_in b
 joined_count plain.Nothing b = omega arith

@@ -5,13 +5,9 @@ use Rattle.std.specs.Prelude.{bytes_eq}
 use Rattle.std.proofs.lemmas.Bool.{cases_lt}
 use Rattle.std.proofs.lemmas.List.{append-nil, length-append, length_push, get_or_append_left, get_or-append-add, get_or_push, take_at}
 use Rattle.src_tree.specs.declared.trees.Decl.{Decl}
-use Rattle.src_tree.specs.Trees.{Tree, Variable}
-use Rattle.src_tree.specs.Meaning.{Store, variable_number, words_of_number, scalar_set, evaluated, run_of_block}
+use Rattle.src_tree.specs.Prelude.{Tree, Variable, Store, variable_number, words_of_number, scalar_set, evaluated, run_of_block}
 use Rattle.src_tree.proofs.KeptByRuns.{left}
-use Rattle.src_procs.specs.Trees.{Parameter, OfValue, OfVariable}
-use Rattle.src_procs.specs.Frames.{naming, named_by, naming_locals, naming_all, new_values, new_labels}
-use Rattle.src_procs.specs.CallMeaning.{Names, valued, one_word}
-use Rattle.src_procs.specs.Inlined.{Renaming, renamed, assigned, new_name, no_name}
+use Rattle.src_procs.specs.Prelude.{Parameter, OfValue, OfVariable, naming, named_by, naming_locals, naming_all, new_values, new_labels, Names, valued, one_word, Renaming, renamed, assigned, new_name, no_name}
 use Rattle.src_procs.proofs.Mirrors.{Sizes, ArePlaces, Mirrors, StandsAt, Nowhere, There, Match, valued_same, front_mirrors, words_set}
 
 -- a new variable's number is its place, and a name that refers to nothing has no number

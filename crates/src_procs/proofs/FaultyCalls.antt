@@ -7,16 +7,12 @@ use Rattle.std.proofs.lemmas.List.{append-nil, reverse-append}
 use Rattle.std.proofs.lemmas.Option.{same_Some}
 use Rattle.std.proofs.lemmas.Bool.{eqb-true, eq-eqb, ne_eqb}
 use Rattle.std.proofs.lemmas.Slice.Eq.{bytes_eq-Decides}
-use Rattle.gr_base.specs.Results.{◌>>=◌}
-use Rattle.gr_base.specs.Lists.{EachAfter}
+use Rattle.gr_base.specs.Prelude.{◌>>=◌, EachAfter}
 use Rattle.gr_base.proofs.ListTests.{bytes_eq-own}
-use Rattle.src_tree.specs.FirstFault.{shown_place}
-use Rattle.src_tree.specs.Trees.{Tree, Number, Variable, Element, Operation}
+use Rattle.src_tree.specs.Prelude.{shown_place, Tree, Number, Variable, Element, Operation}
 use Rattle.src_procs.specs.declared.errors.InlineError.{InlineError}
 use Rattle.src_procs.specs.declared.errors.InlineError.TheVariants.{NoProcedure, WrongCount, NotAnArray}
-use Rattle.src_procs.specs.Trees.{Statement, SetVariable, SetElement, Choice, Loop, Call, Block, Nothing, Then, Parameter, OfValue, OfVariable, Procedure, File}
-use Rattle.src_procs.specs.CallCauses.{HaveNone, IsFirst, ProcedureFault, FoundCall, calls_in_statement, calls_in, calls_after, Calls, CallFault, CallsNone, CountDiffers, PassesOther}
-use Rattle.src_procs.specs.InlineFaults.{fault_where, procedure_named, is_bare, names_variable, lacks_name, call_fault, next_call, calls_walked, calls_walked_all, procedures_walked, fault_met, calls_fault}
+use Rattle.src_procs.specs.Prelude.{Statement, SetVariable, SetElement, Choice, Loop, Call, Block, Nothing, Then, Parameter, OfValue, OfVariable, Procedure, File, HaveNone, IsFirst, ProcedureFault, FoundCall, calls_in_statement, calls_in, calls_after, Calls, CallFault, CallsNone, CountDiffers, PassesOther, fault_where, procedure_named, is_bare, names_variable, lacks_name, call_fault, next_call, calls_walked, calls_walked_all, procedures_walked, fault_met, calls_fault}
 use Rattle.src_procs.proofs.Members.{in-none, in-cases, in-here, in-there, in-reverse, from-reverse}
 use Rattle.src_procs.proofs.FirstWith.{Finds, walk, found_first, only_first, found_none, none_found}
 use Rattle.src_procs.proofs.NamesAgain.{AreOnce, once-more}
@@ -61,10 +57,8 @@ bare-not : (e : Tree) → is_bare e ≡ false → (y : List ℕ) → e ≡ Varia
 bare-not e fails y is = absurd (let f : ◌≡◌ {A = Bool} true false = sym (ap is_bare is) ∙ fails in cc)
 
 not-bare : (e : Tree) → ((y : List ℕ) → e ≡ Variable y → ⊥) → is_bare e ≡ false
-not-bare (Number z) none = refl
 not-bare (Variable x) none = absurd (none x refl)
-not-bare (Element x i) none = refl
-not-bare (Operation op a b) none = refl
+not-bare other none = refl
 
 -- an array's argument that isn't a bare name
 record PassesNoName (ps : List Parameter) (es : List Tree) : Type 0 where

@@ -2,12 +2,10 @@
 use Rattle.std.proofs.Common.{◌≡◌, List, ◌++◌, ap, ◌∙◌}
 use Rattle.gr_word.specs.declared.variables.Label.{Label}
 use Rattle.src_tree.specs.declared.trees.Decl.{Decl}
-use Rattle.src_tree.specs.Trees as plain
-use Rattle.src_tree.specs.Trees.{Source}
-use Rattle.src_procs.specs.Trees.{File}
-use Rattle.src_procs.specs.Expanding.{Held, held_start, first_block, with_made, statements_of}
-use Rattle.src_procs.specs.Inlined.{added, inlined_body, inlined_file}
+use Rattle.src_tree.specs.Prelude.{Source}
+use Rattle.src_procs.specs.Prelude.{File, Held, held_start, first_block, with_made, statements_of, added, inlined_body, inlined_file}
 use Rattle.src_procs.proofs.OneStep.{block_again}
+use Rattle.src_tree.specs.Trees as plain
 
 pub program_so : (f : File) (h : Held) (ds : List Decl) (ss : List plain.Statement)
     → h ≡ with_made (held_start f.procedures) (inlined_body f) → ds ≡ f.decls ++ added 0 h.labels

@@ -3,9 +3,9 @@ use Rattle.std.proofs.Common.{◌≡◌, List, [], ◌∷◌, ◌++◌, Option, 
 use Rattle.std.specs.Option.{option_or}
 use Rattle.std.specs.List.{AllByRecursion}
 use Rattle.std.proofs.lemmas.List.{append_assoc, append-nil}
-use Rattle.gr_base.specs.Lists.{EachAfter}
+use Rattle.gr_base.specs.Prelude.{EachAfter}
 use Rattle.src_procs.specs.declared.errors.InlineError.{InlineError}
-use Rattle.src_procs.specs.CallCauses.{HaveNone, IsFirst}
+use Rattle.src_procs.specs.Prelude.{HaveNone, IsFirst}
 
 -- a check of one item, after others, which finds its fault, for items that it is meant for
 pub record Finds {X : Type 0} (Fault : List X → X → InlineError → Type 0) (check : List X → X → Option InlineError)

@@ -5,16 +5,12 @@ use Rattle.std.specs.Option.{option_map, option_and_then}
 use Rattle.std.proofs.lemmas.List.{length-append}
 use Rattle.gr_word.specs.declared.variables.Label.{Label}
 use Rattle.src_tree.specs.declared.trees.Decl.{Decl}
-use Rattle.src_tree.specs.Trees as plain
-use Rattle.src_tree.specs.Trees.{Tree}
-use Rattle.src_tree.specs.Meaning.{Store, Left, Execution, variable_number, evaluated, guard_holds, scalar_set, element_set, in_turn, turn_taken, looped, loop, run_of, run_of_block}
+use Rattle.src_tree.specs.Prelude.{Tree, Store, Left, Execution, variable_number, evaluated, guard_holds, scalar_set, element_set, in_turn, turn_taken, looped, loop, run_of, run_of_block}
 use Rattle.src_tree.proofs.KeptByRuns.{left}
-use Rattle.src_procs.specs.Trees.{Statement, SetVariable, SetElement, Choice, Loop, Call, Block, Nothing, Then, Procedure}
-use Rattle.src_procs.specs.Frames.{naming_all, new_values, new_labels}
-use Rattle.src_procs.specs.CallMeaning.{Names, RunsOfCalls, valued, passes, with_scalar, with_element, does, does_all, called, calls_of, of_caller, one_word}
-use Rattle.src_procs.specs.Inlined.{Renaming, renamed, renamed_test, Inlined, Inlines, blocks_joined, inlined, inlined_all, assigned, inlined_call, inlines_of, new_name, no_name}
+use Rattle.src_procs.specs.Prelude.{Statement, SetVariable, SetElement, Choice, Loop, Call, Block, Nothing, Then, Procedure, naming_all, new_values, new_labels, Names, RunsOfCalls, valued, passes, with_scalar, with_element, does, does_all, called, calls_of, of_caller, one_word, Renaming, renamed, renamed_test, Inlined, Inlines, blocks_joined, inlined, inlined_all, assigned, inlined_call, inlines_of, new_name, no_name}
 use Rattle.src_procs.proofs.Mirrors.{Sizes, ArePlaces, Mirrors, Match, places_below, valued_same, passes_same, scalar_mirrors, element_mirrors, front_mirrors}
 use Rattle.src_procs.proofs.Entering.{NewNumbers, entered, labels_long, names_match}
+use Rattle.src_tree.specs.Trees as plain
 
 -- both are spent, or both are left with as many turns and with stores that mirror
 pub data Alike (size : Sizes) (places : List ℕ) : Option Left → Option Left → Type 0 where

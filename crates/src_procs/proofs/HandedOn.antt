@@ -7,25 +7,16 @@ use Rattle.std.specs.BTreeMap.{BTreeMap, get, is_at}
 use Rattle.std.specs.Option.{option_map}
 use Rattle.std.proofs.lemmas.List.{append-nil, drop_more}
 use Rattle.gr_base.proofs.NameMaps.{key_cmp, name_added}
-use Rattle.gr_base.specs.NameMaps.{found_under}
+use Rattle.gr_base.specs.Prelude.{found_under}
 use Rattle.gr_word.specs.declared.variables.Label.{Label}
 use Rattle.src_tree.specs.declared.trees.Decl.{Decl}
 use Rattle.src_tree.specs.declared.trees.Expr.{Expr}
-use Rattle.src_tree.specs.Trees as plain
-use Rattle.src_tree.specs.Trees.{Tree, Number, Variable, Element, Operation}
-use Rattle.src_procs.specs.Expanding.{Found, found}
-use Rattle.src_procs.specs.Frames.{naming_all, named_by, new_values, new_labels}
-use Rattle.src_procs.specs.Handed.{Arguments, HandsOn, SameStatement, argument_of, argument_seen, arguments_under, bare, handed, with_argument}
-use Rattle.src_procs.specs.CallCauses.{parameter_name}
+use Rattle.src_tree.specs.Prelude.{Tree, Number, Variable, Element, Operation}
+use Rattle.src_procs.specs.Prelude.{Found, found, naming_all, named_by, new_values, new_labels, Arguments, HandsOn, SameStatement, argument_of, argument_seen, arguments_under, bare, handed, with_argument, parameter_name, parameter_of, trees_seen, Renaming, Inlined, Inlines, assigned, both, inlined, inlined_all, inlined_call, inlines_of, blocks_joined, new_name, no_name, renamed, scalars, SameCode, Statement, Call, Nothing, Then, Parameter, OfValue, OfVariable, Procedure}
 use Rattle.src_procs.specs.declared.trees.Param.{Param}
-use Rattle.src_procs.specs.Seen.{parameter_of}
-use Rattle.src_procs.specs.Views.{trees_seen}
-use Rattle.src_procs.specs.Inlined.{Renaming, Inlined, Inlines, assigned, both, inlined, inlined_all, inlined_call, inlines_of, blocks_joined, new_name, no_name, renamed}
-use Rattle.src_procs.specs.Measured.{scalars}
-use Rattle.src_procs.specs.Pruned.{SameCode}
-use Rattle.src_procs.specs.Trees.{Statement, Call, Nothing, Then, Parameter, OfValue, OfVariable, Procedure}
 use Rattle.src_procs.proofs.NumbersAdded.{flipped}
 use Rattle.src_procs.proofs.OneStep.{inlines_found}
+use Rattle.src_tree.specs.Trees as plain
 
 -- the arguments of two callers that are the same in the program
 pub data Alike (one other : Renaming) : List Tree → List Tree → Type 0 where
@@ -141,9 +132,7 @@ one_alike caller n ps es (Variable y) z none is =
     let s : naming_all new_name no_name caller n ps es [] y ≡ caller h.name =
     named_so caller n ps es y (Variable h.name) none h.given in
     (ap Variable s ∙ sym (ap (renamed caller) h.is), s ∙ sym (ap (named_by no_name caller) h.is))
-one_alike caller n ps es (Number k) z none is = absurd (cc)
-one_alike caller n ps es (Element x i) z none is = absurd (cc)
-one_alike caller n ps es (Operation op a b) z none is = absurd (cc)
+one_alike caller n ps es other z none is = absurd (cc)
 
 all_alike : (caller : Renaming) (n : ℕ) (ps : List Parameter) (es ds zs : List Tree) → scalars ps ≡ 0
     → map Some zs ≡ map (handed (argument_of ps es)) ds

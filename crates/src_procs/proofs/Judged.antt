@@ -1,30 +1,20 @@
 -- The first fault of a file, by what the code finds.
-use Rattle.std.proofs.Common.{◌≡◌, ℕ, ◌<◌, ◌≤◌, ◌^◌, Bool, true, false, length, Option, Some, None, Ok, Err, refl, sym, ap, ◌∙◌, subst, arith}
+use Rattle.std.proofs.Common.{◌≡◌, ℕ, ◌<◌, ◌≤◌, ◌^◌, Bool, true, false, length, Option, Some, None, Ok, refl, sym, ap, ◌∙◌, subst, arith}
 use Rattle.std.specs.Prelude.{nat_lt}
 use Rattle.std.specs.Option.{option_or}
 use Rattle.std.proofs.lemmas.Bool.{ltb-false, lt-ltb, le-ltb}
-use Rattle.src_tree.specs.FirstFault.{shown_number}
-use Rattle.src_tree.specs.Trees as plain
+use Rattle.src_tree.specs.Prelude.{shown_number}
 use Rattle.src_procs.specs.declared.errors.InlineError.{InlineError}
 use Rattle.src_procs.specs.declared.errors.InlineError.TheVariants.{TwiceNamed, Undeclared, NoProcedure, WrongCount, NotAnArray, TooLarge, Memory}
-use Rattle.src_procs.specs.Trees.{File}
-use Rattle.src_procs.specs.CallCauses.{ExplainsInlining, IsFirstCallFault, max_statements}
-use Rattle.src_procs.specs.InlineFaults.{none_named, procedures_fault, file_walked, calls_fault, fault_met, fault_where, inline_fault, IsFoundFault}
-use Rattle.src_procs.specs.Inlined.{inlined_body, inlined_file}
-use Rattle.src_procs.specs.Sizes.{statements_in, file_size}
-use Rattle.src_procs.specs.Promise.{ArePlain, KeepsMeaning}
+use Rattle.src_procs.specs.Prelude.{File, ExplainsInlining, IsFirstCallFault, max_statements, none_named, procedures_fault, file_walked, calls_fault, fault_met, fault_where, inline_fault, IsFoundFault, inlined_body, inlined_file, statements_in, file_size, ArePlain, KeepsMeaning}
 use Rattle.src_procs.proofs.CallCauses.{cause}
 use Rattle.src_procs.proofs.Counted.{file_sized}
 use Rattle.src_procs.proofs.KeptMeaning.{kept_meaning}
+use Rattle.src_tree.specs.Trees as plain
 
 pub explained : (e : InlineError) (f : File) → IsFirstCallFault f e → ExplainsInlining e f
-explained (TwiceNamed n) f h = h
-explained (Undeclared n) f h = h
-explained (NoProcedure n) f h = h
-explained (WrongCount n) f h = h
-explained (NotAnArray n) f h = h
-explained TooLarge f h = h
 explained Memory f h = tt
+explained other f h = h
 
 -- so does what is computed, also of another file with the same first fault
 pub found_explains : (e : InlineError) (f g : File) → inline_fault f ≡ inline_fault g → IsFoundFault e f
@@ -41,23 +31,10 @@ behind_none : (a b : Option InlineError) → a ≡ None → option_or a b ≡ b
 behind_none None b e = refl
 behind_none (Some x) b e = absurd (cc)
 
-pub by_procedures : (f : File) (e : InlineError) → Some e ≡ procedures_fault none_named 0 f.procedures
-    → inline_fault f ≡ Some e
-by_procedures f e h =
-    ap (λ o. option_or o (option_or (calls_fault f)
-    (fault_where (nat_lt max_statements (statements_in (inlined_file f).body)) TooLarge))) (sym h)
-
 behind_procedures : (f : File) → None ≡ procedures_fault none_named 0 f.procedures
     → inline_fault f ≡ option_or (calls_fault f)
     (fault_where (nat_lt max_statements (statements_in (inlined_file f).body)) TooLarge)
 behind_procedures f h = behind_none _ _ (sym h)
-
-pub by_calls : (f : File) (e : InlineError) → None ≡ procedures_fault none_named 0 f.procedures
-    → Err e ≡ file_walked f.procedures f.body → inline_fault f ≡ Some e
-by_calls f e h g =
-    behind_procedures f h
-    ∙ ap (λ r. option_or (fault_met r)
-    (fault_where (nat_lt max_statements (statements_in (inlined_file f).body)) TooLarge)) (sym g)
 
 behind_calls : (f : File) (n : ℕ) → None ≡ procedures_fault none_named 0 f.procedures
     → Ok n ≡ file_walked f.procedures f.body

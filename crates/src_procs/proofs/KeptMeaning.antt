@@ -2,11 +2,8 @@
 use Rattle.std.proofs.Common.{◌≡◌, ◌+◌, ◌≤◌, ◌^◌, [], ◌++◌, length, take, get_or, reverse, Option, Some, None, refl, sym, ap, ◌∙◌, arith}
 use Rattle.std.specs.Option.{option_map}
 use Rattle.std.proofs.lemmas.List.{length-append, length-take-le, get_or-take, ext_get_or}
-use Rattle.src_tree.specs.Meaning.{Store, Left, words_of_number}
-use Rattle.src_procs.specs.Trees.{File}
-use Rattle.src_procs.specs.CallMeaning.{declared_names, calls_of}
-use Rattle.src_procs.specs.Inlined.{kept_name, inlines_of, inlined_body, inlined_file, added}
-use Rattle.src_procs.specs.Promise.{ArePlain, HasNewWords, KeepsMeaning}
+use Rattle.src_tree.specs.Prelude.{Store, Left, words_of_number}
+use Rattle.src_procs.specs.Prelude.{File, declared_names, calls_of, kept_name, inlines_of, inlined_body, inlined_file, added, ArePlain, HasNewWords, KeepsMeaning}
 use Rattle.src_procs.proofs.Mirrors.{Sizes, ArePlaces, Mirrors}
 use Rattle.src_procs.proofs.Following.{Alike, BothSpent, BothLeft, block_follows, calls_follow}
 use Rattle.src_procs.proofs.NewNames.{sizes, new_numbers, own_match, places_from, places_long, place_is, added_long}

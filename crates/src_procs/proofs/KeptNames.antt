@@ -1,9 +1,8 @@
 -- An expression without names that begin with `__` keeps its names.
 use Rattle.std.proofs.Common.{◌≡◌, ℕ, Bool, true, false, List, refl, ap, ◌∙◌}
 use Rattle.std.specs.Prelude.{◌||◌}
-use Rattle.src_tree.specs.Trees.{Tree, Number, Variable, Element, Operation}
-use Rattle.src_procs.specs.Expanding.{has_hidden}
-use Rattle.src_procs.specs.Inlined.{is_hidden, kept_name, renamed}
+use Rattle.src_tree.specs.Prelude.{Tree, Number, Variable, Element, Operation}
+use Rattle.src_procs.specs.Prelude.{has_hidden, is_hidden, kept_name, renamed}
 
 first_not : (a b : Bool) → a || b ≡ false → a ≡ false
 first_not true b e = absurd (cc)

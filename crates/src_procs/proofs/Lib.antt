@@ -27,3 +27,4 @@ pub mod NeededNames
 pub mod NeededBindings
 pub mod KeptNames
 pub mod OwnSteps
+pub mod OwnCalls

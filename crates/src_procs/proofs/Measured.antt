@@ -1,23 +1,14 @@
 -- How many statements calls are replaced by, from the sizes of the procedures' bodies.
-use Rattle.std.proofs.Common.{inl, inr, map, ◌≡◌, ℕ, zero, suc, ◌+◌, ◌-◌, ◌<◌, ◌≤◌, ◌^◌, Bool, true, false, cond, List, [], ◌∷◌, ◌++◌, length, min, take, reverse, get_or, Option, Some, None, refl, sym, ap, ◌∙◌, subst, arith}
+use Rattle.std.proofs.Common.{inl, inr, map, ◌≡◌, ℕ, zero, suc, ◌+◌, ◌-◌, ◌<◌, ◌≤◌, ◌^◌, Bool, true, false, cond, List, [], ◌∷◌, length, min, take, reverse, get_or, Option, Some, None, refl, sym, ap, ◌∙◌, subst, arith}
 use Rattle.std.specs.Prelude.{bytes_eq}
 use Rattle.std.proofs.lemmas.Bool.{cases_lt}
-use Rattle.std.proofs.lemmas.List.{length-map, length-reverse, length-take-le, take_all, take-map, length_push, get_or_append_left, get_or_push}
-use Rattle.src_tree.specs.FirstFault.{shown_number}
+use Rattle.std.proofs.lemmas.List.{length-map, length-reverse, length-take-le, take_all, take-map}
+use Rattle.src_tree.specs.Prelude.{shown_number, Tree, expr_tree}
 use Rattle.src_tree.specs.declared.trees.Decl.{Decl}
-use Rattle.src_tree.specs.Trees.{Tree, expr_tree}
 use Rattle.src_tree.specs.declared.trees.Expr.{Expr}
 use Rattle.src_procs.specs.declared.trees.Param.{Param}
 use Rattle.src_procs.specs.declared.trees.Proc.{Proc}
-use Rattle.src_procs.specs.Seen.{parameter_of, procedure_of, trees_of}
-use Rattle.src_procs.specs.Views.{no_procedure, found_at}
-use Rattle.src_procs.specs.Trees.{Statement, SetVariable, SetElement, Choice, Loop, Call, Block, Nothing, Then, Parameter, OfValue, OfVariable, Procedure}
-use Rattle.src_procs.specs.Frames.{new_values}
-use Rattle.src_procs.specs.Expanding.{Found, found}
-use Rattle.src_procs.specs.Measured.{scalars, body_size, AreSizes, HasSizes, IsMeasured, Measured, counted_call, sizes_by}
-use Rattle.src_procs.specs.Sizes.{CallSizes, sizes_of, size_of, size_of_all}
-use Rattle.src_procs.specs.CallMeaning.{Names}
-use Rattle.src_procs.specs.Numbered.{AreNumbered, by_number}
+use Rattle.src_procs.specs.Prelude.{parameter_of, procedure_of, trees_of, no_procedure, found_at, Statement, SetVariable, SetElement, Choice, Loop, Call, Block, Nothing, Then, Parameter, OfValue, OfVariable, Procedure, new_values, Found, found, scalars, HasSizes, IsMeasured, Measured, counted_call, sizes_by, CallSizes, sizes_of, size_of, size_of_all, Names, AreNumbered, by_number}
 use Rattle.src_procs.proofs.OneStep.{found_last}
 
 locals_long : (locals : List Decl) → length (new_values [] [] locals) ≡ length locals
@@ -219,20 +210,6 @@ pub same_block : (ps : List Procedure) (sizes : List ℕ) (callable : ℕ) → I
     → shown_number (size_of_all (sizes_by sizes (by_number ps callable numbers)) b)
     ≡ shown_number (size_of_all (sizes_of (reverse (take callable ps))) b)
 same_block ps sizes callable m numbers h b = all_same _ _ (record { same = same_call ps sizes callable m numbers h }) b
-
--- one more body
-pub one_size_more : (ps : List Procedure) (sizes : List ℕ) (size : ℕ) → AreSizes ps sizes → length sizes < length ps
-    → size ≡ body_size ps (length sizes) → AreSizes ps (sizes ++ size ∷ [])
-one_size_more ps sizes size known room is =
-    let long = length_push sizes size in
-    record {
-      short = omega (arith, long, room);
-      each = λ k lt. elim (cases_lt k (length sizes)) [
-        | inl below ↦ get_or_append_left sizes (size ∷ []) 0 k below ∙ known.each k below
-        | inr from ↦ (let last : k ≡ length sizes = omega (arith, long, lt, from) in
-            subst (λ n. get_or (sizes ++ size ∷ []) n 0 ≡ body_size ps n) (sym last) (get_or_push sizes size 0 (length sizes) refl ∙ is))
-      ];
-    }
 
 pub all_measured : (ps : List Procedure) (sizes : List ℕ) (callable : ℕ) → HasSizes ps sizes
     → IsMeasured ps sizes callable

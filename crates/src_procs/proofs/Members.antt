@@ -34,15 +34,6 @@ in-map f (y ∷ xs) x c =
     (λ rest. in-there (f y) (map f xs) (f x) (in-map f xs x rest))
     (in-cases y xs x c)
 
-pub from-map : {X Y : Type 0} (f : X → Y) (xs : List X) (y : Y) → Contains (map f xs) y
-    → (x : X) × Contains xs x × (f x ≡ y)
-from-map f [] y c = absurd (in-none y c)
-from-map f (x ∷ xs) y c =
-    ⊎_elim
-    (λ is. (x, in-here x xs, is))
-    (λ rest. let found = from-map f xs y rest in (found.0, in-there x xs found.0 found.1, found.2))
-    (in-cases (f x) (map f xs) y c)
-
 -- ---- of a reversed list
 
 pub in-reverse : {X : Type 0} (xs : List X) (x : X) → Contains xs x → Contains (reverse xs) x

@@ -3,12 +3,10 @@
 use Rattle.std.proofs.Common.{◌≡◌, ◌≢◌, ℕ, ◌+◌, ◌<◌, ◌≤◌, ℤ, pos, List, [], ◌++◌, length, take, get_or, set, Option, Some, None, refl, sym, ap, ◌∙◌, subst, ⊎_elim, arith, length-set, get_or-set_same, get_or-set_other}
 use Rattle.std.proofs.lemmas.Bool.{cases_eq}
 use Rattle.std.proofs.lemmas.List.{get_or_past, set_past, get_or_append_left, get_or-take, length-take-le, length-append}
-use Rattle.gr_word.specs.Words.{applied, compared}
+use Rattle.gr_word.specs.Prelude.{applied, compared}
 use Rattle.src_tree.specs.declared.trees.Decl.{Decl}
-use Rattle.src_tree.specs.Trees.{Tree, Number, Variable, Element, Operation, Test}
-use Rattle.src_tree.specs.Meaning.{Store, variable_number, words_of_number, scalar, element, wrapped, with_word, scalar_set, element_set, evaluated, guard_holds}
-use Rattle.src_procs.specs.CallMeaning.{Names, scalar_of, element_of, with_scalar, with_element, valued, passes}
-use Rattle.src_procs.specs.Inlined.{Renaming, renamed, renamed_test}
+use Rattle.src_tree.specs.Prelude.{Tree, Number, Variable, Element, Operation, Test, Store, variable_number, words_of_number, scalar, element, wrapped, with_word, scalar_set, element_set, evaluated, guard_holds}
+use Rattle.src_procs.specs.Prelude.{Names, scalar_of, element_of, with_scalar, with_element, valued, passes, Renaming, renamed, renamed_test}
 
 -- what the second store is to have: the file's own variables, and new ones of one word
 pub record Sizes : Type 0 where

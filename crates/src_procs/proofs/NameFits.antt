@@ -7,8 +7,8 @@ use Rattle.std.specs.Int.{is_in_range}
 use Rattle.std.proofs.lemmas.Bool.{and_from, and_parts, le-leb}
 use Rattle.std.proofs.lemmas.Fmt.{length-decimal-le}
 use Rattle.gr_base.proofs.Digits.{decimal_digits}
-use Rattle.gr_word.specs.Names.{is_name, is_name_byte}
-use Rattle.src_procs.specs.Inlined.{new_name}
+use Rattle.gr_word.specs.Prelude.{is_name, is_name_byte}
+use Rattle.src_procs.specs.Prelude.{new_name}
 
 either : (a b c d : Bool) → a ≡ true → (((a || b) || c) || d) ≡ true
 either true b c d e = refl

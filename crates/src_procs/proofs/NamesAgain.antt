@@ -6,13 +6,10 @@ use Rattle.std.specs.List.{AllByRecursion}
 use Rattle.std.proofs.lemmas.List.{length-map, map-append}
 use Rattle.std.proofs.lemmas.List.Elements.{Contains-push_cases}
 use Rattle.std.proofs.lemmas.Option.{same_Some}
-use Rattle.src_tree.specs.FirstFault.{shown_place}
+use Rattle.src_tree.specs.Prelude.{shown_place}
 use Rattle.src_procs.specs.declared.errors.InlineError.{InlineError}
 use Rattle.src_procs.specs.declared.errors.InlineError.TheVariants.{TwiceNamed, Undeclared}
-use Rattle.src_procs.specs.CallMeaning.{Names}
-use Rattle.src_procs.specs.Trees.{Procedure}
-use Rattle.src_procs.specs.CallCauses.{HaveNone, IsFirst, IsNamedAgain, AsEarlier, OwnTwice, ProcedureFault, RepeatsName, UsesOther, own_names, names_in_block}
-use Rattle.src_procs.specs.InlineFaults.{fault_where, none_named, numbered, numbered_all, knows_block, body_fault, procedures_fault}
+use Rattle.src_procs.specs.Prelude.{Names, Procedure, HaveNone, IsFirst, IsNamedAgain, AsEarlier, OwnTwice, ProcedureFault, RepeatsName, UsesOther, own_names, names_in_block, fault_where, none_named, numbered, numbered_all, knows_block, body_fault, procedures_fault}
 use Rattle.src_procs.proofs.Members.{in-map, not-all, some-not}
 use Rattle.src_procs.proofs.NamesKnown.{IsOneOf, added, added-has, added-only, twice-none, none-twice, all-added, in-block}
 use Rattle.src_procs.proofs.FirstWith.{Finds, walk, found_first, only_first, found_none, none_found}

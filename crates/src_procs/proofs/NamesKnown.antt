@@ -9,11 +9,8 @@ use Rattle.std.proofs.lemmas.List.Folds.{list_all-append}
 use Rattle.std.proofs.lemmas.Option.{same_Some}
 use Rattle.std.proofs.lemmas.Slice.Eq.{bytes_eq-Decides}
 use Rattle.gr_base.proofs.ListTests.{bytes_eq-own}
-use Rattle.src_tree.specs.Trees.{Tree, Number, Variable, Element, Operation}
-use Rattle.src_procs.specs.CallMeaning.{Names}
-use Rattle.src_procs.specs.Trees.{Statement, SetVariable, SetElement, Choice, Loop, Call, Block, Nothing, Then}
-use Rattle.src_procs.specs.CallCauses.{names_in, names_in_statement, names_in_block}
-use Rattle.src_procs.specs.InlineFaults.{numbered, numbered_all, knows, knows_each, knows_statement, knows_block}
+use Rattle.src_tree.specs.Prelude.{Tree, Number, Variable, Element, Operation}
+use Rattle.src_procs.specs.Prelude.{Names, Statement, SetVariable, SetElement, Choice, Loop, Call, Block, Nothing, Then, names_in, names_in_statement, names_in_block, numbered, numbered_all, knows, knows_each, knows_statement, knows_block}
 use Rattle.src_procs.proofs.Members.{in-none, in-cases, in-here, in-there}
 
 -- ---- one name more

@@ -1,5 +1,5 @@
 -- The code of what is left of a procedure depends on nothing but what the names that it needs are.
-use Rattle.std.proofs.Common.{◌≡◌, ℕ, ◌+◌, ◌<◌, ◌≤◌, pos, Bool, true, false, cond, inl, inr, List, [], ◌∷◌, ◌++◌, length, map, drop, take, reverse, get_or, Option, Some, None, refl, sym, ap, ◌∙◌, subst, arith, append_assoc}
+use Rattle.std.proofs.Common.{◌≡◌, ℕ, ◌+◌, ◌<◌, ◌≤◌, pos, Bool, true, false, cond, inl, inr, List, [], ◌∷◌, ◌++◌, length, drop, take, reverse, get_or, Option, Some, None, refl, sym, ap, ◌∙◌, subst, arith, append_assoc}
 use Rattle.std.specs.Prelude.{bytes_eq, is_some}
 use Rattle.std.specs.Borrow.{Bor}
 use Rattle.std.specs.Option.{option_map}
@@ -10,25 +10,14 @@ use Rattle.gr_base.proofs.ListTests.{bytes_eq-own}
 use Rattle.gr_word.specs.declared.variables.Label.{Label}
 use Rattle.src_tree.specs.declared.trees.Decl.{Decl}
 use Rattle.src_tree.specs.declared.trees.Expr.{Expr}
-use Rattle.src_tree.specs.Trees as plain
-use Rattle.src_tree.specs.Trees.{Tree, Number, Variable, Element, Operation, Test, expr_tree}
-use Rattle.src_procs.specs.CallMeaning.{Names}
-use Rattle.src_procs.specs.Expanding.{Found, found}
-use Rattle.src_procs.specs.Frames.{naming_all, named_by, new_values, new_labels}
-use Rattle.src_procs.specs.Handed.{argument_seen}
-use Rattle.src_procs.specs.InlineFaults.{numbered}
-use Rattle.src_procs.specs.Inlined.{Renaming, Inlined, Inlines, assigned, both, choice_of, loop_of, only_statement, inlined, inlined_all, inlined_call, inlines_of, new_name, no_name, renamed, renamed_test}
-use Rattle.src_procs.specs.Needed.{AgreeOn, DependsOn, KeptOf, LiveBody, Placed, argument_at, first_tree, keep_where, keeps, kept_by, kept_from, kept_in, marked, marked_all, marked_argument, marked_kept, no_body}
-use Rattle.src_procs.specs.Numbered.{AreNumbered, by_number}
-use Rattle.src_procs.specs.Pruned.{ArePruned, IsPruned, SameCode}
-use Rattle.src_procs.specs.Trees.{Statement, SetVariable, SetElement, Choice, Loop, Call, Block, Nothing, Then, Parameter, OfValue, OfVariable, Procedure}
-use Rattle.src_procs.specs.Seen.{procedure_of}
+use Rattle.src_tree.specs.Prelude.{Tree, Number, Variable, Element, Operation, Test, expr_tree}
+use Rattle.src_procs.specs.Prelude.{Names, Found, found, naming_all, named_by, new_values, new_labels, argument_seen, numbered, Renaming, Inlined, Inlines, assigned, both, choice_of, loop_of, only_statement, inlined, inlined_all, inlined_call, inlines_of, new_name, no_name, renamed, renamed_test, AgreeOn, DependsOn, KeptOf, LiveBody, Placed, argument_at, first_tree, keep_where, keeps, kept_by, kept_from, kept_in, marked, marked_all, marked_argument, marked_kept, no_body, AreNumbered, by_number, ArePruned, IsPruned, SameCode, Statement, SetVariable, SetElement, Choice, Loop, Call, Block, Nothing, Then, Parameter, OfValue, OfVariable, Procedure, bodies_of, body_of, found_at, trees_seen}
 use Rattle.src_procs.specs.declared.needed.Body.{Body}
 use Rattle.src_procs.specs.declared.trees.Proc.{Proc}
-use Rattle.src_procs.specs.Views.{bodies_of, body_of, found_at, trees_seen}
 use Rattle.src_procs.proofs.HandedOn.{locals_alike, zeros_alike}
 use Rattle.src_procs.proofs.Measured.{place_of}
 use Rattle.src_procs.proofs.OneStep.{inlines_found, inlines_none}
+use Rattle.src_tree.specs.Trees as plain
 
 -- names that are known stay known
 abbrev pub Extends : Names → Names → Type 0
@@ -102,10 +91,8 @@ renamed_agrees (Operation op a b) known more one other wide h =
 
 named_agrees : (e : Tree) (known more : Names) (one other : Renaming) → Extends (marked known e) more
     → AgreeOn more one other → named_by no_name one e ≡ named_by no_name other e
-named_agrees (Number z) known more one other wide h = refl
 named_agrees (Variable x) known more one other wide h = name_agrees known more x one other wide h
-named_agrees (Element x i) known more one other wide h = refl
-named_agrees (Operation op a b) known more one other wide h = refl
+named_agrees rest known more one other wide h = refl
 
 abbrev test_with : Test → Tree → Tree → Test
 test_with t l r = record { cmp = t.cmp; left = l; right = r }
@@ -403,15 +390,6 @@ pub kept_one : (needed : Names) (i : ℕ) (p : Parameter) (ps : List Parameter) 
     → (done ++ keep_where (keeps needed p) (i, p) []) ++ kept_from needed (i + 1) ps
     ≡ done ++ kept_from needed i (p ∷ ps)
 kept_one needed i p ps done = kept_split (keeps needed p) done (i, p) (kept_from needed (i + 1) ps)
-
-at_kept : (procs : List Proc) (bodies : List LiveBody) (k : ℕ) (o : Option Found) → k < length procs
-    → found_at procs (Some k) ≡ o → kept_in bodies o ≡ (get_or bodies k no_body).kept
-at_kept procs bodies k o lt is =
-    let ps = map procedure_of procs in
-    let all = length-map procs procedure_of in
-    let long : length (reverse (take k ps)) ≡ k =
-    length-reverse (take k ps) ∙ length-take-le k ps (omega (arith, all, lt)) in
-    ap (kept_in bodies) (sym is) ∙ ap (λ (n : ℕ). (get_or bodies n no_body).kept) long
 
 -- a call marks what it binds
 pub none_marked : (procs : List Proc) (bodies : List Body) (known : Names) (es : List Tree) (o : Option Found)

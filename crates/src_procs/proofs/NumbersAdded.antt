@@ -7,12 +7,7 @@ use Rattle.std.proofs.lemmas.List.{take_all, drop_more}
 use Rattle.std.proofs.lemmas.Slice.Eq.{bytes_eq-Decides}
 use Rattle.gr_base.proofs.ListTests.{bytes_eq-own}
 use Rattle.src_procs.specs.declared.errors.InlineError.{InlineError}
-use Rattle.src_procs.specs.CallMeaning.{Names}
-use Rattle.src_procs.specs.Trees.{Procedure}
-use Rattle.src_procs.specs.Expanding.{Found, found}
-use Rattle.src_procs.specs.InlineFaults.{fault_where, numbered, procedures_fault}
-use Rattle.src_procs.specs.Numbered.{AreNumbered, by_number, found_before}
-use Rattle.src_procs.specs.Views.{no_procedure}
+use Rattle.src_procs.specs.Prelude.{Names, Procedure, Found, found, fault_where, numbered, procedures_fault, AreNumbered, by_number, found_before, no_procedure}
 use Rattle.src_procs.proofs.OneStep.{found_last}
 
 -- what a name calls, as the code finds it
@@ -104,17 +99,6 @@ pub record AreSoFar (ps : List Procedure) (i : ℕ) (numbers : Names) : Type 0 w
       → found (reverse (take callable ps)) name ≡ by_number ps callable numbers name
   pub below : (name : List ℕ) (k : ℕ) → numbers name ≡ Some k → k < i
   pub others : procedures_fault numbers i (drop i ps) ≡ None
-
-pub none_so_far : (ps : List Procedure) (numbers : Names) → ((name : List ℕ) → numbers name ≡ None)
-    → procedures_fault numbers 0 ps ≡ None → AreSoFar ps 0 numbers
-none_so_far ps numbers empty faultless = record {
-  numbered = λ callable name le.
-      let zero_is : callable ≡ 0 = omega (arith, le) in
-      ap (λ (n : ℕ). found (reverse (take n ps)) name) zero_is
-      ∙ sym (ap (λ (o : Option ℕ). found_before ps callable o) (empty name));
-  below = λ name k e. let e2 = sym (empty name) ∙ e in absurd (cc);
-  others = faultless;
-}
 
 head_none : (ps : List Procedure) (i : ℕ) (numbers : Names) → i < length ps
     → procedures_fault numbers i (drop i ps) ≡ None

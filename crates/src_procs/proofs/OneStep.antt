@@ -1,14 +1,11 @@
 -- One step of making a file's program changes nothing of what comes of it.
-use Rattle.std.proofs.Common.{◌≡◌, ℕ, zero, suc, map, ◌+◌, ◌<◌, Bool, true, false, cond, Some, None, take, get_or, reverse, List, [], ◌∷◌, ◌++◌, length, refl, sym, ap, ◌∙◌, append_assoc}
+use Rattle.std.proofs.Common.{◌≡◌, ℕ, ◌+◌, ◌<◌, Bool, true, false, cond, Some, None, take, get_or, reverse, List, [], ◌∷◌, ◌++◌, length, refl, sym, ap, ◌∙◌, append_assoc}
 use Rattle.std.specs.Prelude.{bytes_eq}
 use Rattle.std.proofs.lemmas.List.{append-nil, length-append, take_more, reverse-append}
 use Rattle.gr_word.specs.declared.variables.Label.{Label}
+use Rattle.src_tree.specs.Prelude.{Tree, Test}
+use Rattle.src_procs.specs.Prelude.{Statement, SetVariable, SetElement, Choice, Loop, Call, Block, Nothing, Then, Procedure, naming_all, new_values, new_labels, Renaming, renamed, renamed_test, Inlined, blocks_joined, both, inlined, inlined_all, inlines_of, inlined_call, assigned, new_name, no_name, Scope, Held, Found, found, statements_of, put, opened, closed_choice, end_choice, end_loop, with_made, expanded_one, expanded, returned, begun, with_scope, Pending, Rest, Open, EndChoice, EndLoop, finished}
 use Rattle.src_tree.specs.Trees as plain
-use Rattle.src_tree.specs.Trees.{Tree, Test}
-use Rattle.src_procs.specs.Trees.{Statement, SetVariable, SetElement, Choice, Loop, Call, Block, Nothing, Then, Procedure}
-use Rattle.src_procs.specs.Frames.{naming_all, new_values, new_labels}
-use Rattle.src_procs.specs.Inlined.{Renaming, renamed, renamed_test, Inlined, blocks_joined, both, inlined, inlined_all, inlines_of, inlined_call, assigned, new_name, no_name}
-use Rattle.src_procs.specs.Expanding.{Scope, Held, Found, found, statements_of, put, opened, closed_choice, end_choice, end_loop, with_made, expanded_one, expanded, returned, begun, with_scope, Pending, Rest, Open, EndChoice, EndLoop, finished}
 
 pub block_again : (b : plain.Block) → plain.block_of (statements_of b) ≡ b
 block_again plain.Nothing = refl
@@ -182,21 +179,6 @@ pub element_expanded : (x : List ℕ) (i e : Tree) (scope : Scope) (scopes : Lis
     (put (plain.SetElement (scope.names x) (renamed scope.names i) (renamed scope.names e) ∷ []) open_blocks) labels
 element_expanded x i e scope scopes open_blocks labels =
     held_same (scope ∷ scopes) _ _ _ _ refl (append-nil labels)
-
-pub at_map : {X Y : Type 0} (f : X → Y) (xs : List X) (k : ℕ) (d : X) → get_or (map f xs) k (f d) ≡ f (get_or xs k d)
-at_map f [] k d = refl
-at_map f (x ∷ xs) zero d = refl
-at_map f (x ∷ xs) (suc k) d = at_map f xs k d
-
--- a procedure of another name is passed over
-pub passed_over : (procedures : List Procedure) (k : ℕ) (d : Procedure) (name : List ℕ) → k < length procedures
-    → bytes_eq name (get_or procedures k d).name ≡ false → (m n : ℕ) → m ≡ k → n ≡ k + 1
-    → found (reverse (take m procedures)) name ≡ found (reverse (take n procedures)) name
-passed_over procedures k d name lt other m n is next =
-    ap (λ j. found (reverse (take j procedures)) name) is
-    ∙ (sym (ap (λ b. cond b (Some (record { procedure = get_or procedures k d; earlier = reverse (take k procedures) }))
-    (found (reverse (take k procedures)) name)) other)
-    ∙ (sym (found_last procedures k d name lt) ∙ ap (λ j. found (reverse (take j procedures)) name) (sym next)))
 
 -- a call of nothing
 pub none_expanded : (name : List ℕ) (arguments : List Tree) (scope : Scope) (x : Held)

@@ -1,24 +1,16 @@
 -- One step of a file's own statements changes nothing of what comes of them.
 use Rattle.std.proofs.Common.{◌≡◌, ℕ, ◌≤◌, map, List, [], ◌∷◌, ◌++◌, length, reverse, take, refl, sym, ap, ◌∙◌, arith}
 use Rattle.std.proofs.lemmas.List.{append-nil, length-map, reverse-append, take_all}
-use Rattle.src_tree.specs.FirstFault.{shown_number}
-use Rattle.src_tree.specs.Trees as plain
-use Rattle.src_tree.specs.Trees.{Tree, Test, Source}
+use Rattle.src_tree.specs.Prelude.{shown_number, Tree, Test, Source}
 use Rattle.src_procs.specs.declared.expanding.Made.{Made}
 use Rattle.src_procs.specs.declared.trees.PStmt.{PStmt}
 use Rattle.src_procs.specs.declared.trees.Proc.{Proc}
 use Rattle.src_procs.specs.declared.trees.ProcFile.{ProcFile}
-use Rattle.src_procs.specs.CallMeaning.{Names}
-use Rattle.src_procs.specs.Measured.{HasSizes, counted_call}
-use Rattle.src_procs.specs.Numbered.{AreNumbered, found_before}
-use Rattle.src_procs.specs.Seen.{block_of_all, file_of, procedure_of, statement_of}
-use Rattle.src_procs.specs.Trees.{SetVariable, SetElement, Call, Choice, Loop, Block, Procedure}
-use Rattle.src_procs.specs.Inlined.{Inlined, inlined_body, inlined_file, inlines_of, kept_name, renamed, renamed_test}
-use Rattle.src_procs.specs.Expanding.{Held, Pending, Rest, Open, EndChoice, EndLoop, Scope, expanded, expanded_one, finished, held_start, put, with_made}
-use Rattle.src_procs.specs.Views.{bare_file, blocks_of, own_held, source_made}
+use Rattle.src_procs.specs.Prelude.{Names, HasSizes, counted_call, AreNumbered, found_before, block_of_all, file_of, procedure_of, statement_of, SetVariable, SetElement, Call, Choice, Loop, Block, Procedure, Inlined, inlined_body, inlined_file, inlines_of, kept_name, renamed, renamed_test, Held, Pending, Rest, Open, EndChoice, EndLoop, Scope, expanded, expanded_one, finished, held_start, put, with_made, bare_file, blocks_of, own_held, source_made}
 use Rattle.src_procs.proofs.Finished.{program_so}
 use Rattle.src_procs.proofs.OneStep.{choice_so, element_expanded, held_same, loop_so, nothing_expanded, put_nothing, set_expanded, then_expanded}
 use Rattle.src_procs.proofs.Pruning.{counted_dead}
+use Rattle.src_tree.specs.Trees as plain
 
 abbrev pub own_scope : List Proc → Scope
 own_scope procs = record { callable = reverse (map procedure_of procs); names = kept_name }
@@ -85,7 +77,7 @@ own_then procs whole left s m is =
     ∙ then_expanded (statement_of s) (block_of_all (reverse left)) (own_scope procs ∷ [])
     (own_held procs m).open_blocks (own_held procs m).labels))
 
-all_callable : (procs : List Proc) (callable : ℕ) → length procs ≤ callable
+pub all_callable : (procs : List Proc) (callable : ℕ) → length procs ≤ callable
     → take callable (map procedure_of procs) ≡ map procedure_of procs
 all_callable procs callable le =
     let long = length-map procs procedure_of in

@@ -3,25 +3,15 @@ use Rattle.std.proofs.Common.{inl, inr, map, ◌≡◌, ◌≢◌, Option, Some,
 use Rattle.std.proofs.lemmas.Bool.{cases_lt}
 use Rattle.std.proofs.lemmas.List.{get_or-map, length-map, length_push, drop_all, get_or_append_left, get_or_push}
 use Rattle.gr_word.specs.declared.variables.Label.{Label}
-use Rattle.src_tree.specs.FirstFault.{shown_number}
-use Rattle.src_tree.specs.Trees as plain
-use Rattle.src_tree.specs.Trees.{Tree, Test}
-use Rattle.src_procs.specs.CallMeaning.{Names}
-use Rattle.src_procs.specs.Inlined.{Renaming, Inlines, Inlined, both, choice_of, loop_of, inlined, inlined_all, inlines_of, renamed_test}
-use Rattle.src_procs.specs.Measured.{HasSizes, sizes_by}
-use Rattle.src_procs.specs.Numbered.{AreNumbered, by_number}
-use Rattle.src_procs.specs.Pruned.{ArePruned, IsPruned, SameCode, behind, pruned, unless_none, with_first}
-use Rattle.src_procs.specs.Seen.{block_of, block_of_all, procedure_of}
+use Rattle.src_tree.specs.Prelude.{shown_number, Tree, Test}
+use Rattle.src_procs.specs.Prelude.{Names, Renaming, Inlines, Inlined, both, choice_of, loop_of, inlined, inlined_all, inlines_of, renamed_test, HasSizes, sizes_by, AreNumbered, by_number, ArePruned, IsPruned, SameCode, behind, pruned, unless_none, with_first, block_of, block_of_all, procedure_of, LiveBody, no_body, CallSizes, sizes_of, HasSize, Statement, SetVariable, SetElement, Choice, Loop, Call, Block, Nothing, Then, Procedure, bodies_of, body_of, live_of, no_procedure}
 use Rattle.src_procs.specs.declared.live.Live.{Live}
 use Rattle.src_procs.specs.declared.needed.Body.{Body}
-use Rattle.src_procs.specs.Needed.{LiveBody, no_body}
 use Rattle.src_procs.specs.declared.trees.Proc.{Proc}
 use Rattle.src_procs.specs.declared.trees.PStmt.{PStmt}
-use Rattle.src_procs.specs.Sizes.{CallSizes, sizes_of, HasSize}
-use Rattle.src_procs.specs.Trees.{Statement, SetVariable, SetElement, Choice, Loop, Call, Block, Nothing, Then, Procedure}
-use Rattle.src_procs.specs.Views.{bodies_of, body_of, live_of, no_procedure}
 use Rattle.src_procs.proofs.Counted.{calls_have_size, nothing_of_size}
 use Rattle.src_procs.proofs.Measured.{all_measured, same_call}
+use Rattle.src_tree.specs.Trees as plain
 
 pub behind_nothing : (ss : List Statement) → behind ss Nothing ≡ block_of ss
 behind_nothing [] = refl

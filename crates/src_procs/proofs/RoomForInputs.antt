@@ -2,16 +2,13 @@
 use Rattle.std.proofs.Common.{◌≡◌, ℕ, zero, suc, ◌+◌, ◌-◌, ◌<◌, ◌≤◌, List, [], ◌∷◌, ◌++◌, length, get_or, None, refl, ap, ◌∙◌, arith}
 use Rattle.std.proofs.lemmas.List.{length-append, get_or-append-add}
 use Rattle.gr_word.specs.declared.variables.Label.{Label}
-use Rattle.gr_word.specs.declared.variables.Label.TheVariants as label
-use Rattle.gr_word.specs.Fitting.{FitsWants}
+use Rattle.gr_word.specs.Prelude.{FitsWants}
 use Rattle.src_tree.specs.declared.trees.Decl.{Decl}
-use Rattle.src_tree.specs.Limits.{words_of}
-use Rattle.src_tree.specs.Meaning.{Store}
-use Rattle.flow_types.specs.Wants.{declared_wants}
-use Rattle.src_procs.specs.Trees.{File}
-use Rattle.src_procs.specs.Inlined.{added, inlined_body, inlined_file}
-use Rattle.src_procs.specs.Promise.{HasNewWords}
+use Rattle.src_tree.specs.Prelude.{words_of, Store}
+use Rattle.flow_types.specs.Prelude.{declared_wants}
+use Rattle.src_procs.specs.Prelude.{File, added, inlined_body, inlined_file, HasNewWords}
 use Rattle.src_procs.proofs.NewNames.{added_long}
+use Rattle.gr_word.specs.declared.variables.Label.TheVariants as label
 
 fits_long : (ds : List Decl) (store : Store) → FitsWants (declared_wants ds) store → length store ≡ length ds
 fits_long [] [] h = refl

@@ -2,8 +2,7 @@
 use Rattle.std.proofs.Common.{◌≡◌, false, List, [], ◌∷◌, length, drop, get_or, ap, ◌∙◌}
 use Rattle.std.specs.Prelude.{◌==◌}
 use Rattle.src_procs.specs.declared.live.Live.{Live}
-use Rattle.src_procs.specs.Trees.{Then}
-use Rattle.src_procs.specs.Views.{live_block, live_of}
+use Rattle.src_procs.specs.Prelude.{Then, live_block, live_of}
 
 pub whole_block : (statements : List Live) (s : Live) (others : List Live) → false ≡ (length statements == 0)
     → s ≡ get_or statements 0 s → others ≡ drop 1 statements

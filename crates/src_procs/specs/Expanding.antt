@@ -4,11 +4,11 @@ use Rattle.std.specs.Prelude.{ℕ, pos, Bool, false, ◌||◌, List, [], ◌∷�
 use Rattle.std.specs.Option.{option_or}
 use Rattle.gr_word.specs.declared.variables.Label.{Label}
 use Rattle.src_tree.specs.declared.trees.Decl.{Decl}
-use Rattle.src_tree.specs.Trees as plain
 use Rattle.src_tree.specs.Trees.{Tree, Number, Variable, Element, Operation, Test}
 use Rattle.src_procs.specs.Trees.{Statement, SetVariable, SetElement, Block, Parameter, OfValue, OfVariable, Procedure}
 use Rattle.src_procs.specs.Frames.{naming_all, named_by, new_values, new_labels}
 use Rattle.src_procs.specs.Inlined.{Renaming, renamed, Inlined, inlined, inlined_all, inlines_of, assigned, is_hidden, new_name, no_name, kept_name}
+use Rattle.src_tree.specs.Trees as plain
 
 -- what is still to be done: the statements that are left of a block; the caller's names count again; a block opens; a
 -- choice ends with its second part, or a loop with its body

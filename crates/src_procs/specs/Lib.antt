@@ -14,3 +14,4 @@ pub mod Numbered
 pub mod Pruned
 pub mod Handed
 pub mod Needed
+pub mod Prelude

@@ -1,7 +1,6 @@
 -- For private clauses only: the types with which a file's program is made, as the proofs see them.
 use Rattle.std.specs.Prelude.{ℕ, List, [], ◌∷◌, ◌++◌, map, take, reverse, slice_index_or, Option, Some, None}
 use Rattle.std.specs.Borrow.{Bor}
-use Rattle.src_tree.specs.Trees as plain
 use Rattle.src_tree.specs.Trees.{Tree, expr_tree, test_of}
 use Rattle.src_tree.specs.declared.trees.Expr.{Expr}
 use Rattle.src_tree.specs.declared.trees.Stmt.{Stmt}
@@ -10,6 +9,16 @@ use Rattle.src_procs.specs.declared.trees.PStmt.{PStmt}
 use Rattle.src_procs.specs.declared.trees.Proc.{Proc}
 use Rattle.std.specs.BTreeMap.{BTreeMap}
 use Rattle.gr_base.specs.NameMaps.{found_under}
+use Rattle.src_tree.specs.declared.trees.Decl.{Decl}
+use Rattle.src_procs.specs.declared.live.Live.{Live}
+use Rattle.src_procs.specs.Needed.{LiveBody, Placed}
+use Rattle.src_procs.specs.declared.live.Live.TheOpen.{Live-F}
+use Rattle.src_procs.specs.declared.live.Live.TheFolds.{fold-Live}
+use Rattle.src_procs.specs.Inlined.{Renaming, added, kept_name}
+use Rattle.src_procs.specs.Seen.{block_of, block_of_all, parameter_of, procedure_of}
+use Rattle.src_procs.specs.Trees.{Statement, SetVariable, SetElement, Choice, Loop, Call, Block, Nothing, Procedure, File}
+use Rattle.src_procs.specs.Expanding.{Binding, Found, looked_up, first_block, nothing_bound, Pending, Rest, Return, Open, EndChoice, EndLoop, Scope, Held}
+use Rattle.src_tree.specs.Trees as plain
 use Rattle.src_procs.specs.declared.scopes.Naming as namings
 use Rattle.src_procs.specs.declared.scopes.Naming.TheVariants as naming
 use Rattle.src_procs.specs.declared.scopes.Scope as scopes
@@ -19,18 +28,9 @@ use Rattle.src_procs.specs.declared.expanding.Held as helds
 use Rattle.src_procs.specs.declared.expanding.Made as mades
 use Rattle.src_procs.specs.declared.own_statements.Own as owns
 use Rattle.src_procs.specs.declared.own_statements.Own.TheVariants as own
-use Rattle.src_tree.specs.declared.trees.Decl.{Decl}
-use Rattle.src_procs.specs.declared.live.Live.{Live}
 use Rattle.src_procs.specs.declared.needed.Kept as lives
 use Rattle.src_procs.specs.declared.needed.Body as lives_of
-use Rattle.src_procs.specs.Needed.{LiveBody, Placed}
-use Rattle.src_procs.specs.declared.live.Live.TheOpen.{Live-F}
 use Rattle.src_procs.specs.declared.live.Live.TheOpen as open_live
-use Rattle.src_procs.specs.declared.live.Live.TheFolds.{fold-Live}
-use Rattle.src_procs.specs.Inlined.{Renaming, added, kept_name}
-use Rattle.src_procs.specs.Seen.{block_of, block_of_all, parameter_of, procedure_of}
-use Rattle.src_procs.specs.Trees.{Statement, SetVariable, SetElement, Choice, Loop, Call, Block, Nothing, Procedure, File}
-use Rattle.src_procs.specs.Expanding.{Binding, Found, looked_up, first_block, nothing_bound, Pending, Rest, Return, Open, EndChoice, EndLoop, Scope, Held}
 
 abbrev pub names_of : namings.Naming → Renaming
 names_of naming.Own = kept_name

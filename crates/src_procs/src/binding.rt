@@ -1,15 +1,15 @@
 ghost use Rattle.std.specs.Prelude.{◌≡◌, IfOk, OnOk, is_some, pos, map};
-ghost use Rattle.gr_base.specs.NameMaps.{found_under};
-ghost use Rattle.src_tree.specs.Trees.{expr_tree, statement_of, Number, SetVariable};
-ghost use Rattle.src_procs.specs.Expanding as spec;
+ghost use Rattle.gr_base.specs.Prelude.{found_under};
+ghost use Rattle.src_tree.specs.Prelude.{expr_tree, statement_of, Number, SetVariable};
 ghost use Rattle.src_procs.specs.Frames.{named_by};
-ghost use Rattle.src_procs.specs.Inlined as inlined;
 ghost use Rattle.src_procs.specs.Inlined.{no_name, renamed};
 ghost use Rattle.std.specs.Option.{option_map};
 ghost use Rattle.src_procs.specs.Handed.{argument_seen};
-ghost use Rattle.src_procs.specs.Needed as needed;
 ghost use Rattle.src_procs.specs.Seen.{parameter_of};
 ghost use Rattle.src_procs.specs.Views.{binding_of, names_of, placed_of, trees_seen, unbound};
+ghost use Rattle.src_procs.specs.Expanding as spec;
+ghost use Rattle.src_procs.specs.Inlined as inlined;
+ghost use Rattle.src_procs.specs.Needed as needed;
 
 use crate::expanding::{Made, put_statement};
 use crate::needed::{Kept, argument_at};
@@ -62,7 +62,7 @@ fn bind<'a>(bounds: &mut Bounds<'a>, name: &'a [u8], stands: Name) -> Result<(),
 }
 
 // A new variable, with the name that refers to it and the assignment of its value.
-fn with_new<'a>(
+pub(crate) fn with_new<'a>(
     made: &mut Made,
     bounds: &mut Bounds<'a>,
     label: Label,
@@ -94,7 +94,7 @@ fn new_assignment<'a>(
 }
 
 // What an argument names for the caller.
-fn alias<'a>(alloc: Global, caller: &Naming<'a>, e: &Expr) -> Result<Name, Memory>
+pub(crate) fn alias<'a>(alloc: Global, caller: &Naming<'a>, e: &Expr) -> Result<Name, Memory>
     ensures { IfOk result (λ name. name ≡ named_by no_name (names_of caller.now) (expr_tree e.now)) }
 {
     match e {
@@ -106,7 +106,11 @@ fn alias<'a>(alloc: Global, caller: &Naming<'a>, e: &Expr) -> Result<Name, Memor
 }
 
 // A name that refers to a variable of the caller.
-fn with_alias<'a>(bounds: &mut Bounds<'a>, name: &'a Name, other: Name) -> Result<(), Memory>
+pub(crate) fn with_alias<'a>(
+    bounds: &mut Bounds<'a>,
+    name: &'a Name,
+    other: Name,
+) -> Result<(), Memory>
     ensures { OnOk result (found_under bounds.new ≡ spec.bound_after (found_under bounds.old) name.now other) }
 {
     bind(bounds, name.bytes(), other)
@@ -176,7 +180,7 @@ fn with_kept<'a>(
     Ok(())
 }
 
-fn with_locals<'a>(
+pub(crate) fn with_locals<'a>(
     alloc: Global,
     made: &mut Made,
     bounds: &mut Bounds<'a>,

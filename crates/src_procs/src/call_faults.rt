@@ -1,10 +1,9 @@
 ghost use Rattle.std.specs.Prelude.{◌≡◌, ◌&&◌, [], map, not, reverse, take};
-ghost use Rattle.gr_base.specs.NameMaps.{found_under};
-ghost use Rattle.src_tree.specs.FirstFault.{shown_place};
-ghost use Rattle.src_tree.specs.Trees.{expr_tree};
-ghost use Rattle.src_procs.specs.InlineFaults as spec;
+ghost use Rattle.gr_base.specs.Prelude.{found_under};
+ghost use Rattle.src_tree.specs.Prelude.{shown_place, expr_tree};
 ghost use Rattle.src_procs.specs.Numbered.{AreNumbered, procedure_by_number};
 ghost use Rattle.src_procs.specs.Seen.{statement_of, block_of_all, trees_of, parameter_of, procedure_of};
+ghost use Rattle.src_procs.specs.InlineFaults as spec;
 
 use crate::errors::InlineError;
 use crate::finding::called;

@@ -1,5 +1,5 @@
 ghost use Rattle.std.specs.Prelude.{◌≡◌, ◌∷◌, [], IfOk, OnOk, map, option_map, reverse};
-ghost use Rattle.src_tree.specs.Trees.{test_of, statement_of};
+ghost use Rattle.src_tree.specs.Prelude.{test_of, statement_of};
 ghost use Rattle.src_procs.specs.Expanding.{EndChoice, EndLoop, Open, Rest, Return, closed_choice, closed_loop, plain_statement, put};
 ghost use Rattle.src_procs.specs.Views.{blocks_of, live_block, live_of, names_of, pending_all};
 

@@ -1,5 +1,5 @@
 ghost use Rattle.std.specs.Prelude.{◌≡◌, ◌<◌, IfOk, IfSome, None, length, map};
-ghost use Rattle.gr_base.specs.NameMaps.{found_under};
+ghost use Rattle.gr_base.specs.Prelude.{found_under};
 ghost use Rattle.src_procs.specs.InlineFaults.{none_named, procedures_fault};
 ghost use Rattle.src_procs.specs.Numbered.{AreNumbered, found_before};
 ghost use Rattle.src_procs.specs.Seen.{procedure_of};

@@ -1,13 +1,13 @@
 ghost use Rattle.std.specs.Prelude.{◌≡◌, ◌<◌, ◌≤◌, IfOk, IfSome, OnOk, Some, length, map, option_map, reverse, take};
-ghost use Rattle.gr_base.specs.NameMaps.{found_under};
-ghost use Rattle.src_tree.specs.Trees.{expr_tree};
-ghost use Rattle.src_procs.specs.Handed as spec;
+ghost use Rattle.gr_base.specs.Prelude.{found_under};
+ghost use Rattle.src_tree.specs.Prelude.{expr_tree};
 ghost use Rattle.src_procs.specs.Handed.{HandsOn, SameStatement, argument_seen, arguments_under};
 ghost use Rattle.src_procs.specs.Numbered.{AreNumbered};
 ghost use Rattle.src_procs.specs.Pruned.{ArePruned, SameCode};
 ghost use Rattle.src_procs.specs.Seen.{parameter_of, procedure_of};
 ghost use Rattle.src_procs.specs.Trees.{Call, Nothing, Then};
 ghost use Rattle.src_procs.specs.Views.{bodies_of, live_block, live_of, trees_seen};
+ghost use Rattle.src_procs.specs.Handed as spec;
 
 use crate::finding::called;
 use crate::live::Live;

@@ -1,6 +1,6 @@
 ghost use Rattle.std.specs.Prelude.{◌≡◌, ◌++◌, ◌∷◌, [], IfErr, IfOk, OnOk, None, length, map};
-ghost use Rattle.gr_base.specs.NameMaps.{found_under};
-ghost use Rattle.src_tree.specs.Trees.{source_of};
+ghost use Rattle.gr_base.specs.Prelude.{found_under};
+ghost use Rattle.src_tree.specs.Prelude.{source_of};
 ghost use Rattle.src_procs.specs.declared.errors.InlineError.{InlineError};
 ghost use Rattle.src_procs.specs.Expanding.{first_block, held_start, with_made};
 ghost use Rattle.src_procs.specs.CallCauses.{ExplainsInlining, IsFirstCallFault};

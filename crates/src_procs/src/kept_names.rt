@@ -1,7 +1,7 @@
 ghost use Rattle.std.specs.Prelude.{◌≡◌, IfOk};
-ghost use Rattle.src_tree.specs.Trees.{expr_tree, test_of};
-ghost use Rattle.src_procs.specs.Expanding as spec;
+ghost use Rattle.src_tree.specs.Prelude.{expr_tree, test_of};
 ghost use Rattle.src_procs.specs.Inlined.{kept_name, renamed, renamed_test};
+ghost use Rattle.src_procs.specs.Expanding as spec;
 
 use crate::scopes::{Naming, is_hidden, no_name, renamed};
 use gr_base::Memory;

@@ -1,7 +1,7 @@
 ghost use Rattle.std.specs.Prelude.{◌≡◌, ◌≤◌, ◌^◌, Some, length};
-ghost use Rattle.flow_types.specs.Wants.{declared_wants};
-ghost use Rattle.gr_word.specs.Fitting.{FitsWants};
-ghost use Rattle.src_tree.specs.Meaning.{Store};
+ghost use Rattle.flow_types.specs.Prelude.{declared_wants};
+ghost use Rattle.gr_word.specs.Prelude.{FitsWants};
+ghost use Rattle.src_tree.specs.Prelude.{Store};
 ghost use Rattle.src_procs.specs.declared.errors.InlineError.{InlineError};
 ghost use Rattle.src_procs.specs.Trees.{File};
 ghost use Rattle.src_procs.specs.CallCauses.{IsFirstCallFault};

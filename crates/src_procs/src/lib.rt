@@ -17,6 +17,7 @@ mod kept_names;
 pub mod laws;
 mod live;
 mod needed;
+mod own_calls;
 mod own_names;
 mod own_statements;
 pub mod scopes;

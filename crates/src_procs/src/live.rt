@@ -1,5 +1,5 @@
 ghost use Rattle.std.specs.Prelude.{◌≡◌, ◌≤◌, IfOk, length, map, option_map, reverse, take};
-ghost use Rattle.gr_base.specs.NameMaps.{found_under};
+ghost use Rattle.gr_base.specs.Prelude.{found_under};
 ghost use Rattle.src_procs.specs.Measured.{HasSizes, sizes_by};
 ghost use Rattle.src_procs.specs.Numbered.{AreNumbered, by_number};
 ghost use Rattle.src_procs.specs.Pruned.{ArePruned, SameCode, behind, kept, pruned, with_first};
@@ -28,7 +28,7 @@ pub(crate) enum Live<'a> {
 }
 
 // Each of some arguments.
-pub(crate) fn each<'a>(alloc: Global, arguments: &'a [Expr]) -> Result<Vec<&'a Expr>, Memory>
+fn each<'a>(alloc: Global, arguments: &'a [Expr]) -> Result<Vec<&'a Expr>, Memory>
     ensures { IfOk result (λ all. trees_seen all.items ≡ trees_of arguments.now) }
 {
     let mut all = Vec::new(alloc);

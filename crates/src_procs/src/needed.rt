@@ -1,14 +1,14 @@
 ghost use Rattle.std.specs.Prelude.{◌≡◌, ◌++◌, [], IfOk, OnOk, length, map, reverse, take};
-ghost use Rattle.gr_base.specs.NameMaps.{found_under};
-ghost use Rattle.src_tree.specs.Trees.{expr_tree, test_of};
+ghost use Rattle.gr_base.specs.Prelude.{found_under};
+ghost use Rattle.src_tree.specs.Prelude.{expr_tree, test_of};
 ghost use Rattle.std.specs.Option.{option_map};
 ghost use Rattle.src_procs.specs.Handed.{argument_seen};
 ghost use Rattle.src_procs.specs.InlineFaults.{numbered};
-ghost use Rattle.src_procs.specs.Needed as spec;
 ghost use Rattle.src_procs.specs.Numbered.{AreNumbered, by_number};
 ghost use Rattle.src_procs.specs.Pruned.{ArePruned, IsPruned, SameCode};
 ghost use Rattle.src_procs.specs.Seen.{parameter_of, procedure_of};
 ghost use Rattle.src_procs.specs.Views.{bodies_of, body_of, live_block, live_of, placed_of, trees_seen};
+ghost use Rattle.src_procs.specs.Needed as spec;
 
 use crate::finding::called;
 use crate::live::Live;

@@ -1,12 +1,11 @@
 ghost use Rattle.std.specs.Prelude.{◌≡◌, ◌++◌, ◌&&◌, IfOk, OnOk, map, option_map, is_some};
 ghost use Rattle.std.specs.Option.{option_or};
-ghost use Rattle.gr_base.specs.NameMaps.{found_under};
-ghost use Rattle.src_tree.specs.FirstFault.{shown_place};
-ghost use Rattle.src_tree.specs.Trees.{expr_tree, test_of};
-ghost use Rattle.src_procs.specs.CallCauses as causes;
-ghost use Rattle.src_procs.specs.InlineFaults as spec;
+ghost use Rattle.gr_base.specs.Prelude.{found_under};
+ghost use Rattle.src_tree.specs.Prelude.{shown_place, expr_tree, test_of};
 ghost use Rattle.src_procs.specs.Seen.{statement_of, block_of_all, trees_of, parameter_of, procedure_of};
 ghost use Rattle.src_procs.specs.Views.{names_seen};
+ghost use Rattle.src_procs.specs.CallCauses as causes;
+ghost use Rattle.src_procs.specs.InlineFaults as spec;
 
 use crate::errors::InlineError;
 use crate::trees::{PStmt, Param, Proc};

@@ -1,18 +1,17 @@
 ghost use Rattle.std.specs.Prelude.{◌≡◌, ◌∷◌, IfOk, OnOk, map, reverse};
-ghost use Rattle.src_tree.specs.Trees.{expr_tree, test_of};
+ghost use Rattle.src_tree.specs.Prelude.{expr_tree, test_of};
 ghost use Rattle.src_procs.specs.Expanding.{EndChoice, EndLoop, Open, Rest, expanded, expanded_one, finished};
 ghost use Rattle.src_procs.specs.Measured.{HasSizes};
 ghost use Rattle.src_procs.specs.Pruned.{AreReady};
 ghost use Rattle.src_procs.specs.Seen.{block_of_all, procedure_of, statement_of, trees_of};
 ghost use Rattle.src_procs.specs.Trees.{Call, Choice, Loop, SetElement, SetVariable};
-ghost use Rattle.src_procs.specs.Views.{own_held, own_of, owns_all, trees_seen};
+ghost use Rattle.src_procs.specs.Views.{own_held, own_of, owns_all};
 
-use crate::expanding::{Held, Made, close_choice, close_loop, open_block, put_statement};
+use crate::expanding::{Made, close_choice, close_loop, open_block, put_statement};
 use crate::kept_names::{own_expr, own_guard, own_name};
-use crate::live::each;
-use crate::scopes::{Naming, Scope};
+use crate::own_calls::with_own_call;
 use crate::sizes::call_size;
-use crate::stepping::{Procedures, call, expand};
+use crate::stepping::Procedures;
 use crate::trees::{PStmt, Proc};
 use gr_base::Memory;
 use gr_word::Name;
@@ -163,69 +162,38 @@ fn set_element(
     }
 }
 
-// What was made, with the statements that a call is replaced by.
-fn replaced<'b, 'a>(
-    alloc: Global,
-    file: Procedures<'b, 'a>,
-    name: &Name,
-    arguments: &[&Expr],
-    made: Made,
-) -> Result<Made, Memory>
-    requires { AreReady file }
-    ensures { IfOk result (λ m. own_held file.entry.procs.now m
-        ≡ expanded_one (Call name.now (trees_seen arguments.now)) (own_held file.entry.procs.now made)) }
-{
-    let mut held = Held {
-        scopes: Vec::new(alloc),
-        made,
-    };
-    let callable = file.procs.len();
-    let scope = Scope {
-        callable,
-        names: Naming::Own,
-    };
-    let mut waiting = Vec::new(alloc);
-    call(
-        alloc,
-        file,
-        &mut waiting,
-        name,
-        arguments,
-        callable,
-        scope,
-        &mut held,
-    )?;
-    expand(alloc, file, &mut waiting, &mut held)?;
-    let Held { scopes, made } = held;
-    drop(scopes);
-    Ok(made)
-}
-
 // A call, unless it is replaced by nothing.
 fn replace_call<'b, 'a>(
     alloc: Global,
     file: Procedures<'b, 'a>,
     sizes: &[u64],
-    name: &Name,
-    arguments: &[Expr],
+    name: Name,
+    arguments: Vec<Expr>,
     made: &mut Made,
 ) -> Result<(), Memory>
     requires file { AreReady file }
     requires sizes { HasSizes (map procedure_of file.procs.now) sizes.now }
     ensures { OnOk result (own_held file.entry.procs.now made.new
-        ≡ expanded_one (Call name.now (trees_of arguments.now)) (own_held file.entry.procs.now made.old)) }
+        ≡ expanded_one (Call name (trees_of arguments.items)) (own_held file.entry.procs.now made.old)) }
 {
     let callable = file.procs.len();
-    if call_size(file.procs, file.numbers, sizes, callable, name, arguments) == 0 {
+    let size = call_size(
+        file.procs,
+        file.numbers,
+        sizes,
+        callable,
+        &name,
+        arguments.as_slice(),
+    );
+    if size == 0 {
         return Ok(());
     }
-    let arguments = each(alloc, arguments)?;
     let nothing = Made {
         open_blocks: Vec::new(alloc),
         labels: Vec::new(alloc),
     };
     let before = mem::replace(made, nothing);
-    let after = replaced(alloc, file, name, arguments.as_slice(), before)?;
+    let after = with_own_call(alloc, file, &name, arguments, before)?;
     drop(mem::replace(made, after));
     Ok(())
 }
@@ -254,9 +222,7 @@ fn statement<'b, 'a>(
             choice(alloc, file.procs, waiting, guard, first, second, made)
         }
         PStmt::While(guard, body) => repeat(alloc, file.procs, waiting, guard, body, made),
-        PStmt::Call(name, arguments) => {
-            replace_call(alloc, file, sizes, &name, arguments.as_slice(), made)
-        }
+        PStmt::Call(name, arguments) => { replace_call(alloc, file, sizes, name, arguments, made) }
     }
 }
 

@@ -1,6 +1,6 @@
 ghost use Rattle.std.specs.Prelude.{◌≡◌, IfOk, slice_index};
-ghost use Rattle.gr_base.specs.NameMaps.{found_under};
-ghost use Rattle.src_tree.specs.Trees.{expr_tree, test_of};
+ghost use Rattle.gr_base.specs.Prelude.{found_under};
+ghost use Rattle.src_tree.specs.Prelude.{expr_tree, test_of};
 ghost use Rattle.src_procs.specs.Inlined.{is_hidden, kept_name, no_name, renamed, renamed_test};
 ghost use Rattle.src_procs.specs.Expanding.{looked_up};
 ghost use Rattle.src_procs.specs.Views.{names_of};

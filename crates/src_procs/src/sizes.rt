@@ -1,6 +1,6 @@
 ghost use Rattle.std.specs.Prelude.{◌≡◌, ◌+◌, ◌<◌, ◌≤◌, ◌∷◌, [], IfOk, length, map, min, reverse, slice_index_or, take};
-ghost use Rattle.gr_base.specs.NameMaps.{found_under};
-ghost use Rattle.src_tree.specs.FirstFault.{shown_number};
+ghost use Rattle.gr_base.specs.Prelude.{found_under};
+ghost use Rattle.src_tree.specs.Prelude.{shown_number};
 ghost use Rattle.src_procs.specs.Frames.{new_values};
 ghost use Rattle.src_procs.specs.Seen.{statement_of, block_of_all, trees_of, parameter_of, procedure_of};
 ghost use Rattle.src_procs.specs.Sizes.{sizes_of, size_of, size_of_all};

@@ -1,5 +1,5 @@
 ghost use Rattle.std.specs.Prelude.{◌≡◌, ◌≤◌, ◌∷◌, [], IfNone, IfSome, OnOk, length, map, reverse, take};
-ghost use Rattle.src_tree.specs.Trees.{test_of};
+ghost use Rattle.src_tree.specs.Prelude.{test_of};
 ghost use Rattle.src_procs.specs.Expanding.{Rest, Return, assigned_one, expanded, expanded_one, finished, with_locals, with_scope};
 ghost use Rattle.src_procs.specs.Needed.{begun_by, with_kept};
 ghost use Rattle.src_procs.specs.Pruned.{AreReady};
@@ -34,7 +34,11 @@ pub(crate) struct Procedures<'b, 'a> {
 }
 
 // What is held, with one more scope.
-fn scoped<'a>(procs: &'a [Proc], held: &mut Held<'a>, scope: Scope<'a>) -> Result<(), Memory>
+pub(crate) fn scoped<'a>(
+    procs: &'a [Proc],
+    held: &mut Held<'a>,
+    scope: Scope<'a>,
+) -> Result<(), Memory>
     ensures { OnOk result (held_of procs.now held.new
         ≡ with_scope (scope_of procs.now scope.entry) (held_of procs.now held.old)) }
 {
@@ -68,7 +72,7 @@ fn begin_call<'a>(
 }
 
 // A call of a procedure.
-pub(crate) fn call<'b, 'a>(
+fn call<'b, 'a>(
     alloc: Global,
     file: Procedures<'b, 'a>,
     waiting: &mut Vec<Pending<'b, 'a>>,

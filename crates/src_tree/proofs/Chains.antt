@@ -2,7 +2,7 @@
 use Rattle.std.proofs.Common.{◌≡◌, Bool, true, false, ◌||◌, Option, Some, None, refl}
 use Rattle.std.specs.Option.{option_or}
 use Rattle.src_tree.specs.declared.faults.TypeError.{TypeError}
-use Rattle.src_tree.specs.FirstFault.{where_true}
+use Rattle.src_tree.specs.Prelude.{where_true}
 
 -- the first of three errors, grouped either way
 pub or_assoc : {X : Type 0} (a b c : Option X) → option_or (option_or a b) c ≡ option_or a (option_or b c)

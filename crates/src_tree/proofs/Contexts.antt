@@ -5,7 +5,7 @@ use Rattle.std.specs.Bool.{Decides, one_answer}
 use Rattle.std.specs.Option.{option_or}
 use Rattle.std.proofs.lemmas.Slice.Eq.{bytes_eq-Decides}
 use Rattle.src_tree.specs.declared.trees.Decl.{Decl}
-use Rattle.src_tree.specs.Contexts.{label_and_shape, context_of}
+use Rattle.src_tree.specs.Prelude.{label_and_shape, context_of}
 use Rattle.src_tree.proofs.Chains.{or_none}
 
 -- whether two texts are equal doesn't depend on their order

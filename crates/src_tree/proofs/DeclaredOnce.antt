@@ -1,11 +1,10 @@
 -- No declaration has an error exactly if each name is declared once.
 use Rattle.std.proofs.Common.{◌≡◌, false, List, [], ◌∷◌, ◌++◌, length, Option, Some, None, refl}
 use Rattle.std.specs.Prelude.{is_some}
-use Rattle.gr_base.specs.Lists.{EachAfter}
+use Rattle.gr_base.specs.Prelude.{EachAfter}
 use Rattle.src_tree.specs.declared.trees.Decl.{Decl}
 use Rattle.src_tree.specs.declared.faults.TypeError.TheVariants.{TwiceDeclared}
-use Rattle.src_tree.specs.Contexts.{context_of}
-use Rattle.src_tree.specs.FirstFault.{shown_place, where_true, twice_fault}
+use Rattle.src_tree.specs.Prelude.{context_of, shown_place, where_true, twice_fault}
 use Rattle.src_tree.proofs.Chains.{neither, chained, not_true, no_fault}
 
 -- an option that isn't Some is None

@@ -3,19 +3,15 @@ use Rattle.std.proofs.Common.{◌≡◌, ◌+◌, ◌≤◌, nat_lt, [], length,
 use Rattle.std.specs.Option.{option_or}
 use Rattle.std.proofs.lemmas.Bool.{ltb-false, le-ltb}
 use Rattle.gr_word.specs.declared.variables.Label.TheVariants.{Public}
-use Rattle.src_tree.specs.Trees.{Source}
+use Rattle.src_tree.specs.Prelude.{Source, context_of, IsTyped, max_variables, max_words, max_weight, total_words, weight_of, IsWithinLimits, shown_number, twice_fault, typing_fault, height_fault, statements_fault, variables_fault, length_fault, words_fault, weight_fault, limits_fault, first_fault}
 use Rattle.src_tree.specs.declared.faults.TypeError.{TypeError}
-use Rattle.src_tree.specs.declared.faults.TypeError.TheVariants as error
 use Rattle.src_tree.specs.declared.faults.Which.TheVariants.{Variables, Weight}
-use Rattle.src_tree.specs.Contexts.{context_of}
-use Rattle.src_tree.specs.Typing.{IsTyped}
-use Rattle.src_tree.specs.Limits.{max_variables, max_words, max_weight, total_words, weight_of, IsWithinLimits}
-use Rattle.src_tree.specs.FirstFault.{shown_number, twice_fault, typing_fault, height_fault, statements_fault, variables_fault, length_fault, words_fault, weight_fault, limits_fault, first_fault}
 use Rattle.src_tree.proofs.Chains.{neither, chained, not_true, no_fault}
 use Rattle.src_tree.proofs.InOrder.{block_first}
 use Rattle.src_tree.proofs.DeclaredOnce.{declared_once, once_back}
 use Rattle.src_tree.proofs.NoTypingFault.{block_typed, block_back}
 use Rattle.src_tree.proofs.NoLimitPassed.{lengths_fit, lengths_back, words_fit, words_back, block_low, block_low_back}
+use Rattle.src_tree.specs.declared.faults.TypeError.TheVariants as error
 
 -- the errors after those of declarations
 abbrev pub behind : Source → Option TypeError

@@ -3,8 +3,7 @@ use Rattle.std.proofs.Common.{◌≡◌, ℕ, zero, suc, ◌+◌, ◌<◌, List,
 use Rattle.std.specs.Option.{option_or}
 use Rattle.gr_word.specs.declared.variables.Label.{Label}
 use Rattle.src_tree.specs.declared.faults.TypeError.{TypeError}
-use Rattle.src_tree.specs.Trees.{Statement}
-use Rattle.src_tree.specs.FirstFault.{StatementFault, first_among, IsFirstAt}
+use Rattle.src_tree.specs.Prelude.{Statement, StatementFault, first_among, IsFirstAt}
 
 module _ (fault : StatementFault) where
   at_number : (n m : ℕ) (x : Label × Statement) (r : Option TypeError)

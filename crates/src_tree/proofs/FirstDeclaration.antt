@@ -6,18 +6,15 @@ use Rattle.std.specs.Option.{option_or}
 use Rattle.std.proofs.lemmas.List.{append_assoc, append-nil}
 use Rattle.std.proofs.lemmas.Option.{same_Some}
 use Rattle.std.proofs.lemmas.Bool.{ltb-true, ltb-false}
-use Rattle.gr_base.specs.Lists.{EachAfter}
+use Rattle.gr_base.specs.Prelude.{EachAfter}
 use Rattle.gr_word.specs.declared.variables.Label.{Label}
 use Rattle.gr_word.specs.declared.variables.Shape.{Shape}
 use Rattle.src_tree.specs.declared.trees.Decl.{Decl}
 use Rattle.src_tree.specs.declared.faults.TypeError.{TypeError}
 use Rattle.src_tree.specs.declared.faults.TypeError.TheVariants.{TwiceDeclared, Limit}
 use Rattle.src_tree.specs.declared.faults.Which.TheVariants.{ArrayLength, TotalWords}
-use Rattle.src_tree.specs.Contexts.{context_of}
-use Rattle.src_tree.specs.Limits.{max_words, words_of, total_words}
-use Rattle.src_tree.specs.FirstFault.{shown_place, shown_number, where_true, length_fits, twice_fault, length_fault, words_fault}
+use Rattle.src_tree.specs.Prelude.{context_of, max_words, words_of, total_words, shown_place, shown_number, where_true, length_fits, twice_fault, length_fault, words_fault, IsFirstDeclaration, IsNamedAgain, HasBadLength, PassesWords}
 use Rattle.src_tree.proofs.NoLimitPassed.{length_is_fit, fits_back}
-use Rattle.src_tree.specs.Causes.{IsFirstDeclaration, IsNamedAgain, HasBadLength, PassesWords}
 
 -- ---- one walk
 

@@ -5,16 +5,9 @@ use Rattle.std.specs.List.{AllByRecursion}
 use Rattle.std.proofs.lemmas.Option.{same_Some}
 use Rattle.std.proofs.lemmas.Bool.{ltb-true, ltb-false, lt-ltb, le-ltb}
 use Rattle.gr_word.specs.declared.variables.Label.TheVariants.{Public}
-use Rattle.src_tree.specs.Trees.{Source}
+use Rattle.src_tree.specs.Prelude.{Source, context_of, in_order, IsTyped, max_variables, max_words, max_weight, total_words, weight_of, LengthFits, LowBlock, StatementFault, shown_number, where_true, twice_fault, typing_fault, height_fault, statements_fault, variables_fault, length_fault, words_fault, weight_fault, limits_fault, first_fault, IsFirstFault, NamedAgain, IllTyped, ManyVariables, BadLength, ManyWords, HighExpression, HeavyBody}
 use Rattle.src_tree.specs.declared.faults.TypeError.{TypeError}
-use Rattle.src_tree.specs.declared.faults.TypeError.TheVariants as error
 use Rattle.src_tree.specs.declared.faults.Which.TheVariants.{Variables}
-use Rattle.src_tree.specs.Contexts.{context_of}
-use Rattle.src_tree.specs.Statements.{in_order}
-use Rattle.src_tree.specs.Typing.{IsTyped}
-use Rattle.src_tree.specs.Limits.{max_variables, max_words, max_weight, total_words, weight_of, LengthFits, LowBlock}
-use Rattle.src_tree.specs.FirstFault.{StatementFault, shown_number, where_true, twice_fault, typing_fault, height_fault, statements_fault, variables_fault, length_fault, words_fault, weight_fault, limits_fault, first_fault}
-use Rattle.src_tree.specs.Causes.{IsFirstFault, NamedAgain, IllTyped, ManyVariables, BadLength, ManyWords, HighExpression, HeavyBody}
 use Rattle.src_tree.proofs.Chains.{not_true, no_fault}
 use Rattle.src_tree.proofs.DeclaredOnce.{declared_once, once_back}
 use Rattle.src_tree.proofs.FirstAmong.{found_among, only_among}
@@ -22,6 +15,7 @@ use Rattle.src_tree.proofs.FirstDeclaration.{twice_found, twice_only, length_fou
 use Rattle.src_tree.proofs.InOrder.{block_first}
 use Rattle.src_tree.proofs.NoTypingFault.{block_typed, block_back}
 use Rattle.src_tree.proofs.NoLimitPassed.{lengths_fit, lengths_back, words_fit, words_back, block_low, block_low_back}
+use Rattle.src_tree.specs.declared.faults.TypeError.TheVariants as error
 
 -- ---- chains of errors
 

@@ -2,12 +2,7 @@
 use Rattle.std.proofs.Common.{◌≡◌, ℕ, ◌+◌, List, [], ◌∷◌, ◌++◌, length, refl, sym, ap, ◌∙◌, arith}
 use Rattle.std.proofs.lemmas.List.{length-append}
 use Rattle.gr_word.specs.declared.variables.Label.{Label}
-use Rattle.src_tree.specs.Trees.{Statement, SetVariable, SetElement, Choice, Loop, Block, Nothing, Then}
-use Rattle.src_tree.specs.Contexts.{Context}
-use Rattle.src_tree.specs.Labels.{inside}
-use Rattle.src_tree.specs.Statements.{with_parts, in_order}
-use Rattle.src_tree.specs.FirstFault.{StatementFault, ◌or_else◌, first_among}
-use Rattle.src_tree.specs.PartByPart.{count_of, block_count, statement_fault, block_fault}
+use Rattle.src_tree.specs.Prelude.{Statement, SetVariable, SetElement, Choice, Loop, Block, Nothing, Then, Context, inside, with_parts, in_order, StatementFault, ◌or_else◌, first_among, count_of, block_count, statement_fault, block_fault}
 use Rattle.src_tree.proofs.Chains.{or_assoc, or_none}
 
 -- the first error among some statements and then others

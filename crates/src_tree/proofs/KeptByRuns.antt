@@ -3,8 +3,7 @@
 use Rattle.std.proofs.Common.{◌≡◌, ℕ, zero, suc, Bool, true, false, if◌then◌else◌, ℤ, Option, Some, None, List, refl, subst}
 use Rattle.std.specs.Option.{option_and_then}
 use Rattle.src_tree.specs.declared.trees.Decl.{Decl}
-use Rattle.src_tree.specs.Trees.{Statement, SetVariable, SetElement, Choice, Loop, Block, Nothing, Then}
-use Rattle.src_tree.specs.Meaning.{Store, Left, Execution, with_word, guard_holds, in_turn, turn_taken, looped, loop, run_of, run_of_block}
+use Rattle.src_tree.specs.Prelude.{Statement, SetVariable, SetElement, Choice, Loop, Block, Nothing, Then, Store, Left, Execution, with_word, guard_holds, in_turn, turn_taken, looped, loop, run_of, run_of_block}
 
 -- a store, with the iterations that are left
 abbrev pub left : Store → ℕ → Left

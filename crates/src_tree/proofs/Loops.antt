@@ -4,8 +4,7 @@
 use Rattle.std.proofs.Common.{◌≡◌, ℕ, zero, suc, ◌≤◌, Bool, true, false, if◌then◌else◌, Option, Some, None, List, refl, ap, ◌∙◌, arith}
 use Rattle.std.specs.Option.{option_and_then}
 use Rattle.src_tree.specs.declared.trees.Decl.{Decl}
-use Rattle.src_tree.specs.Trees.{Block}
-use Rattle.src_tree.specs.Meaning.{Store, Left, Execution, in_turn, turn_taken, looped, loop, run_of_block}
+use Rattle.src_tree.specs.Prelude.{Block, Store, Left, Execution, in_turn, turn_taken, looped, loop, run_of_block}
 use Rattle.src_tree.proofs.KeptByRuns.{IsKept, one_keeps, both_keep, either_keeps, loop_keeps, block_keeps}
 pub use Rattle.src_tree.proofs.KeptByRuns.{left}
 

@@ -5,8 +5,7 @@ use Rattle.std.proofs.lemmas.List.{get_or-take, length-take-le}
 use Rattle.std.proofs.lemmas.Slice.Eq.{bytes_eq-Decides}
 use Rattle.gr_base.proofs.EachAfter.{EachAfter-at}
 use Rattle.src_tree.specs.declared.trees.Decl.{Decl}
-use Rattle.src_tree.specs.Contexts.{label_and_shape, context_of}
-use Rattle.src_tree.specs.Typing.{DeclaredOnce}
+use Rattle.src_tree.specs.Prelude.{label_and_shape, context_of, DeclaredOnce}
 
 -- a name that isn't declared differs from each name that is
 not-among : (ds : List Decl) (name : List ℕ)

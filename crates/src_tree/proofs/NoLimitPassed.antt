@@ -4,16 +4,10 @@ use Rattle.std.specs.List.{AllByRecursion}
 use Rattle.std.proofs.lemmas.Bool.{ltb-false, le-ltb, leb-true, le-leb}
 use Rattle.gr_word.specs.declared.variables.Label.{Label}
 use Rattle.src_tree.specs.declared.trees.Decl.{Decl}
-use Rattle.src_tree.specs.Heights.{height_of}
-use Rattle.src_tree.specs.Trees.{Tree, Statement, SetVariable, SetElement, Choice, Loop, Block, Nothing, Then}
+use Rattle.src_tree.specs.Prelude.{height_of, Tree, Statement, SetVariable, SetElement, Choice, Loop, Block, Nothing, Then, Context, inside, max_length, max_words, max_height, words_of, total_words, LengthFits, Low, LowStatement, LowBlock, shown_number, where_true, too_high, height_fault, length_fits, length_fault, words_fault, count_of, block_count, statement_fault, block_fault}
 use Rattle.src_tree.specs.declared.faults.TypeError.{TypeError}
 use Rattle.src_tree.specs.declared.faults.TypeError.TheVariants.{Limit}
 use Rattle.src_tree.specs.declared.faults.Which.TheVariants.{ArrayLength, TotalWords, Height}
-use Rattle.src_tree.specs.Contexts.{Context}
-use Rattle.src_tree.specs.Labels.{inside}
-use Rattle.src_tree.specs.Limits.{max_length, max_words, max_height, words_of, total_words, LengthFits, Low, LowStatement, LowBlock}
-use Rattle.src_tree.specs.FirstFault.{shown_number, where_true, too_high, height_fault, length_fits, length_fault, words_fault}
-use Rattle.src_tree.specs.PartByPart.{count_of, block_count, statement_fault, block_fault}
 use Rattle.src_tree.proofs.Chains.{neither, chained, not_true, no_fault, both_false, neither_true}
 
 -- lengths of arrays

@@ -5,13 +5,8 @@ use Rattle.gr_word.specs.declared.variables.Label.{Label}
 use Rattle.gr_word.specs.declared.variables.Label.TheVariants.{Public, Secret}
 use Rattle.gr_word.specs.declared.variables.Shape.{Shape}
 use Rattle.gr_word.specs.declared.variables.Shape.TheVariants.{Scalar, Array}
-use Rattle.src_tree.specs.Trees.{Tree, Number, Variable, Element, Operation, Test, Statement, SetVariable, SetElement, Choice, Loop, Block, Nothing, Then}
+use Rattle.src_tree.specs.Prelude.{Tree, Number, Variable, Element, Operation, Test, Statement, SetVariable, SetElement, Choice, Loop, Block, Nothing, Then, Context, higher, inside, secret_label, label_at, label_of, label_of_test, Flows, TypedTree, TypedTest, TypedStatement, TypedBlock, shown_place, where_true, same_shape, kind_fault, use_fault, names_fault, leaks, has_leaking_index, guard_fault, loop_fault, typing_fault, count_of, block_count, statement_fault, block_fault}
 use Rattle.src_tree.specs.declared.faults.TypeError.TheVariants.{FlowToPublic, SecretIndexOfPublic, SecretGuardOfLoop, LoopInSecret}
-use Rattle.src_tree.specs.Contexts.{Context}
-use Rattle.src_tree.specs.Labels.{higher, inside, secret_label, label_at, label_of, label_of_test}
-use Rattle.src_tree.specs.Typing.{Flows, TypedTree, TypedTest, TypedStatement, TypedBlock}
-use Rattle.src_tree.specs.FirstFault.{shown_place, where_true, same_shape, kind_fault, use_fault, names_fault, leaks, has_leaking_index, guard_fault, loop_fault, typing_fault}
-use Rattle.src_tree.specs.PartByPart.{count_of, block_count, statement_fault, block_fault}
 use Rattle.src_tree.proofs.Chains.{Neither, neither, chained, not_true, no_fault, both_false, neither_true}
 
 flows : (from to : Label) → leaks from to ≡ false → Flows from to

@@ -4,12 +4,7 @@ use Rattle.std.specs.List.{All}
 use Rattle.std.proofs.lemmas.List.Elements.{All-append, All-cons, All-contains, All-nil}
 use Rattle.gr_word.specs.declared.variables.Label.{Label}
 use Rattle.gr_word.specs.declared.variables.Label.TheVariants.{Public}
-use Rattle.src_tree.specs.Contexts.{Context, context_of}
-use Rattle.src_tree.specs.Labels.{inside}
-use Rattle.src_tree.specs.Limits.{IsWithinLimits, LowStatement, LowBlock}
-use Rattle.src_tree.specs.Statements.{with_parts, in_order, StandsIn}
-use Rattle.src_tree.specs.Trees.{Statement, SetVariable, SetElement, Choice, Loop, Block, Nothing, Then, Source}
-use Rattle.src_tree.specs.Typing.{IsTyped, TypedStatement, TypedBlock}
+use Rattle.src_tree.specs.Prelude.{Context, context_of, inside, IsWithinLimits, LowStatement, LowBlock, with_parts, in_order, StandsIn, Statement, SetVariable, SetElement, Choice, Loop, Block, Nothing, Then, Source, IsTyped, TypedStatement, TypedBlock}
 
 abbrev pub TypedIn : Context → Label × Statement → Type 0
 TypedIn known p = TypedStatement known p.0 p.1

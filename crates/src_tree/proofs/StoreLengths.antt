@@ -2,8 +2,7 @@
 use Rattle.std.proofs.Common.{◌≡◌, ℕ, length, Option, Some, None, refl, ◌∙◌, subst}
 use Rattle.std.specs.Option.{option_map}
 use Rattle.std.proofs.lemmas.List.{length-set}
-use Rattle.src_tree.specs.Trees.{Source}
-use Rattle.src_tree.specs.Meaning.{Store, Left, run_of_block, meaning}
+use Rattle.src_tree.specs.Prelude.{Source, Store, Left, run_of_block, meaning}
 use Rattle.src_tree.proofs.KeptByRuns.{left, IsKept, block_keeps}
 
 abbrev AsMany : Left → Left → Type 0

@@ -1,7 +1,6 @@
 -- The height of an expression is at least 1.
 use Rattle.std.proofs.Common.{◌≤◌, arith}
-use Rattle.src_tree.specs.Heights.{height_of}
-use Rattle.src_tree.specs.Trees.{Tree, Number, Variable, Element, Operation}
+use Rattle.src_tree.specs.Prelude.{height_of, Tree, Number, Variable, Element, Operation}
 
 pub height-some : (e : Tree) → 1 ≤ height_of e
 height-some (Number z) = omega arith

@@ -7,9 +7,7 @@ use Rattle.gr_base.proofs.ListTests.{bytes_eq-own}
 use Rattle.gr_word.specs.declared.variables.Label.{Label}
 use Rattle.gr_word.specs.declared.variables.Shape.{Shape}
 use Rattle.src_tree.specs.declared.trees.Decl.{Decl}
-use Rattle.src_tree.specs.Contexts.{context_of, label_and_shape}
-use Rattle.src_tree.specs.Meaning.{variable_number}
-use Rattle.src_tree.specs.Typing.{DeclaredOnce}
+use Rattle.src_tree.specs.Prelude.{context_of, label_and_shape, variable_number, DeclaredOnce}
 
 -- two names with the same number are declared alike
 pub same-number : (ds : List Decl) (x y : List ℕ) (kind : Label × Shape) → context_of ds x ≡ Some kind

@@ -10,3 +10,4 @@ pub mod Statements
 pub mod FirstFault
 pub mod Causes
 pub mod PartByPart
+pub mod Prelude

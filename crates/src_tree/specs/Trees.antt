@@ -4,14 +4,14 @@ use Rattle.std.specs.Prelude.{ℕ, ℤ, List, [], ◌∷◌, map}
 use Rattle.gr_word.specs.declared.operations.Op.{Op}
 use Rattle.gr_word.specs.declared.operations.Cmp.{Cmp}
 use Rattle.src_tree.specs.declared.trees.Expr.{Expr}
-use Rattle.src_tree.specs.declared.trees.Expr.TheVariants as expr
 use Rattle.src_tree.specs.declared.trees.Guard.{Guard}
 use Rattle.src_tree.specs.declared.trees.Stmt.{Stmt}
 use Rattle.src_tree.specs.declared.trees.Stmt.TheOpen.{Stmt-F}
 use Rattle.src_tree.specs.declared.trees.Stmt.TheFolds.{fold-Stmt}
-use Rattle.src_tree.specs.declared.trees.Stmt.TheOpen as open_stmt
 use Rattle.src_tree.specs.declared.trees.Decl.{Decl}
 use Rattle.src_tree.specs.declared.trees.Program.{Program}
+use Rattle.src_tree.specs.declared.trees.Expr.TheVariants as expr
+use Rattle.src_tree.specs.declared.trees.Stmt.TheOpen as open_stmt
 
 -- an expression: a number, a variable, an element of an array with its index, or an operation on two expressions
 pub data Tree : Type 0 where

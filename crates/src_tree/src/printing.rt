@@ -1,21 +1,6 @@
 ghost use Rattle.std.specs.Prelude.{◌≡◌, ◌++◌, IfOk, OnOk, decimal};
 ghost use Rattle.std.specs.Fmt.{signed_decimal};
-ghost use Rattle.src_tree.specs.Printed.{
-  spaced,
-  line_of_token,
-  in_braces,
-  op_sign,
-  cmp_sign,
-  label_keyword,
-  tree_text,
-  test_text,
-  statement_text,
-  block_text,
-  size_text,
-  decl_text,
-  decls_text,
-  source_text,
-};
+ghost use Rattle.src_tree.specs.Printed.{spaced, line_of_token, in_braces, op_sign, cmp_sign, label_keyword, tree_text, test_text, statement_text, block_text, size_text, decl_text, decls_text, source_text};
 ghost use Rattle.src_tree.specs.Trees.{expr_tree, test_of, statement_of, block_of_all, source_of};
 
 use crate::trees::{Decl, Expr, Guard, Program, Stmt};

@@ -1,7 +1,7 @@
 -- Registers that steps name, counted from the register of the value.
 use Rattle.std.proofs.Common.{◌≡◌, ◌≢◌, ℕ, ◌+◌, ◌<◌, ◌≤◌, Bool, true, false, cond, eqb, refl, sym, ap, ◌∙◌, arith}
 use Rattle.std.proofs.lemmas.Bool.{eqb-true, false≢true, eq-eqb}
-use Rattle.strength_reduction.specs.Steps.{numbered, replaced}
+use Rattle.strength_reduction.specs.Prelude.{numbered, replaced}
 use Rattle.strength_reduction.proofs.Codes.{numbered_is}
 
 pub numbered-low : (base i : ℕ) → i ≤ 2 → base + 2 < 32 → numbered base i < 32

@@ -3,10 +3,10 @@ use Rattle.std.proofs.Common.{◌≡◌, ℕ, ◌+◌, ◌<◌, ◌≤◌, Bool,
 use Rattle.std.specs.Prelude.{All}
 use Rattle.std.proofs.lemmas.List.Elements.{All-head, All-tail}
 use Rattle.lt_isa.specs.declared.instructions.Instr.TheVariants.{Li, Alu}
-use Rattle.lt_isa.specs.Object.{Parts}
-use Rattle.trace_patterns.specs.Known.{Known, is_secret, set_secret}
+use Rattle.lt_isa.specs.Prelude.{Parts}
+use Rattle.trace_patterns.specs.Prelude.{Known, is_secret, set_secret}
 use Rattle.stretches.proofs.Passed.{GoesOn, NoMore, One, rules-li, rules-alu, secret-same, secret-other}
-use Rattle.strength_reduction.specs.Steps.{Step, Constant, Compute, StepFits, replaced, secrets_after, numbered, code_of}
+use Rattle.strength_reduction.specs.Prelude.{Step, Constant, Compute, StepFits, replaced, secrets_after, numbered, code_of}
 use Rattle.step_code.proofs.Registers.{numbered-low, numbered-from, numbered-to, set-own}
 
 -- what the check knows after code that it passes: the labels of the steps' registers, and the rest as before

@@ -2,17 +2,12 @@
 use Rattle.std.proofs.Common.{◌≡◌, ℕ, ◌+◌, ◌<◌, ◌≤◌, ℤ, List, [], ◌∷◌, refl, ap, ◌∙◌, arith}
 use Rattle.std.specs.Prelude.{All}
 use Rattle.std.proofs.lemmas.List.Elements.{All-head, All-tail}
-use Rattle.gr_word.specs.Words.{applied}
+use Rattle.gr_word.specs.Prelude.{applied}
 use Rattle.lt_isa.specs.declared.instructions.Instr.TheVariants.{Li, Alu}
-use Rattle.lt_isa.specs.Object.{Parts}
-use Rattle.lt_isa.specs.Ranges.{IsInRange}
-use Rattle.lt_isa.specs.Machine.{State, register}
-use Rattle.lt_isa.specs.Shape.{IsShaped}
-use Rattle.lt_isa.specs.Trace.{Here}
-use Rattle.stretches.specs.Standing.{StandsAt}
-use Rattle.stretches.specs.Coming.{RunsThrough, Sets}
+use Rattle.lt_isa.specs.Prelude.{Parts, IsInRange, State, register, IsShaped, Here}
+use Rattle.stretches.specs.Prelude.{StandsAt, RunsThrough, Sets}
 use Rattle.stretches.proofs.RunningThrough.{runs-cons, runs-weaker, sets-li, sets-alu}
-use Rattle.strength_reduction.specs.Steps.{Step, Constant, Compute, StepFits, replaced, words_after, numbered, code_of}
+use Rattle.strength_reduction.specs.Prelude.{Step, Constant, Compute, StepFits, replaced, words_after, numbered, code_of}
 use Rattle.step_code.proofs.Registers.{numbered-low, numbered-from, numbered-to, set-own}
 
 -- the registers of the steps have these words; those below and above, the slots and the banks are as before

@@ -5,14 +5,12 @@ use Rattle.std.proofs.lemmas.List.Elements.{All-head, All-tail}
 use Rattle.gr_word.specs.declared.operations.Op.{Op}
 use Rattle.lt_isa.specs.declared.profiles.Profile.{Profile}
 use Rattle.lt_isa.specs.declared.instructions.Instr.TheVariants.{Li, Alu}
-use Rattle.lt_isa.specs.Object.{Parts}
-use Rattle.lt_isa.specs.Costs.{operation_cost}
-use Rattle.symbolic_values.specs.Trees.{Value, Const}
-use Rattle.trace_patterns.specs.SymStates.{SymState, tree_held, hold_tree}
-use Rattle.trace_patterns.specs.Single.{Goes, applied_trees, single}
-use Rattle.stretches.specs.Shows.{Show, Gap, pattern_of_one}
+use Rattle.lt_isa.specs.Prelude.{Parts, operation_cost}
+use Rattle.symbolic_values.specs.Prelude.{Value, Const}
+use Rattle.trace_patterns.specs.Prelude.{SymState, tree_held, hold_tree, Goes, applied_trees, single}
+use Rattle.stretches.specs.Prelude.{Show, Gap, pattern_of_one}
 use Rattle.stretches.proofs.ArmCode.{Walked, walked-none, walked-on}
-use Rattle.strength_reduction.specs.Steps.{Step, Constant, Compute, StepFits, left_by, replaced, numbered, code_of}
+use Rattle.strength_reduction.specs.Prelude.{Step, Constant, Compute, StepFits, left_by, replaced, numbered, code_of}
 use Rattle.step_code.proofs.Registers.{numbered-low, numbered-from, numbered-to, set-own}
 
 -- the trees that steps leave in the registers

@@ -2,8 +2,7 @@
 use Rattle.std.proofs.Common.{◌≡◌, ℕ, zero, suc, ◌+◌, ◌-◌, ◌<◌, ◌≤◌, List, ◌∷◌, ◌++◌, length, get_or, take, drop, refl, sym, ap, ◌∙◌, arith, length-drop}
 use Rattle.std.proofs.lemmas.List.{append_assoc, append-nil, drop_all, drop_more, take_all}
 use Rattle.lt_isa.specs.declared.instructions.Instr.{Instr}
-use Rattle.strength_reduction.specs.Steps.{numbered, code_of}
-use Rattle.strength_reduction.specs.Reduced.{sum_register, term_steps, sum_steps}
+use Rattle.strength_reduction.specs.Prelude.{numbered, code_of, sum_register, term_steps, sum_steps}
 
 -- registers are counted by addition
 pub numbered_is : (base i : ℕ) → numbered base i ≡ base + i

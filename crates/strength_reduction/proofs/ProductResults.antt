@@ -4,9 +4,8 @@ use Rattle.std.specs.Prelude.{All}
 use Rattle.std.proofs.lemmas.Bool.{eqb-true}
 use Rattle.std.proofs.lemmas.List.Elements.{All-head, All-tail}
 use Rattle.gr_word.specs.declared.operations.Op.TheVariants.{Add, Mul, Shl}
-use Rattle.gr_word.specs.Words.{IsWord, applied, unsigned_of}
-use Rattle.strength_reduction.specs.Steps.{Constant, Compute, left_by, words_after}
-use Rattle.strength_reduction.specs.Reduced.{set_bits, sum_steps, sum_register, product_steps}
+use Rattle.gr_word.specs.Prelude.{IsWord, applied, unsigned_of}
+use Rattle.strength_reduction.specs.Prelude.{Constant, Compute, left_by, words_after, set_bits, sum_steps, sum_register, product_steps}
 use Rattle.strength_reduction.proofs.SetBits.{power_sum, set_bits-low, set_bits-sum}
 use Rattle.strength_reduction.proofs.Wrapping.{wrapped, word-wrapped, add-wrapped, mul-wrapped, shl-wrapped, xor-same}
 

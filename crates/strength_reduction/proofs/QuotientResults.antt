@@ -7,10 +7,9 @@ use Rattle.std.proofs.lemmas.Int.{ints, to_z-of_z, int_wrap_fits}
 use Rattle.std.proofs.lemmas.Nat.{pow_pos, pow-add, shr_split, mod-mul-add}
 use Rattle.std.proofs.Math.Nat.{mod-eq_of_lt, div-eq_of_lt, div-le_self, mod-le, add-mod_right, add-div_right, mod-one, div-one, zero-mod, lt_of_mul-lt-mul_right}
 use Rattle.gr_word.specs.declared.operations.Op.TheVariants.{Add, Sub, Div, Rem, Remu, And, Shr}
-use Rattle.gr_word.specs.Words.{IsWord, applied, unsigned_of}
+use Rattle.gr_word.specs.Prelude.{IsWord, applied, unsigned_of}
 use Rattle.gr_word.proofs.SmallNumbers.{and_small, remu_small, shr_small, add_small}
-use Rattle.strength_reduction.specs.Steps.{Constant, Compute, words_after}
-use Rattle.strength_reduction.specs.Reduced.{zero_steps, low_bits, rounding_steps, quotient_steps, remainder_steps, mask_steps}
+use Rattle.strength_reduction.specs.Prelude.{Constant, Compute, words_after, zero_steps, low_bits, rounding_steps, quotient_steps, remainder_steps, mask_steps}
 use Rattle.strength_reduction.proofs.Wrapping.{xor-same}
 
 -- the lowest k bits of a word below 0

@@ -4,9 +4,8 @@ use Rattle.std.proofs.lemmas.Bool.{eqb-true, lt-ltb, ltb-true}
 use Rattle.std.proofs.lemmas.Bool.Decides.{nat_tests}
 use Rattle.gr_word.specs.declared.operations.Op.{Op}
 use Rattle.gr_word.specs.declared.operations.Op.TheVariants.{Mul, Div, Rem, Remu}
-use Rattle.gr_word.specs.Words.{IsWord, unsigned_of}
-use Rattle.strength_reduction.specs.Steps.{Step, Constant, Compute, Replaces, left_by, reads_known, replaced}
-use Rattle.strength_reduction.specs.Reduced.{set_bits, product_steps, quotient_steps, remainder_steps, mask_steps, power_of, is_word, steps_by_bits, steps_by_number}
+use Rattle.gr_word.specs.Prelude.{IsWord, unsigned_of}
+use Rattle.strength_reduction.specs.Prelude.{Step, Constant, Compute, Replaces, left_by, reads_known, replaced, set_bits, product_steps, quotient_steps, remainder_steps, mask_steps, power_of, is_word, steps_by_bits, steps_by_number}
 use Rattle.strength_reduction.proofs.SetBits.{power_sum, set_bits-low, set_bits-sum}
 use Rattle.strength_reduction.proofs.ProductResults.{product-result}
 use Rattle.strength_reduction.proofs.QuotientResults.{quotient-result, remainder-result, mask-result}

@@ -12,8 +12,8 @@ use Rattle.std.proofs.lemmas.List.Elements.{filter-append, All-filter, All-cons,
 use Rattle.std.proofs.lemmas.Nat.{mod-pow-add}
 use Rattle.std.proofs.Math.Nat.{mod-eq_of_lt, mod-one}
 use Rattle.std.proofs.Math.Facts.{Fits-of_z}
-use Rattle.gr_word.specs.Words.{IsWord, unsigned_of}
-use Rattle.strength_reduction.specs.Reduced.{set_bits}
+use Rattle.gr_word.specs.Prelude.{IsWord, unsigned_of}
+use Rattle.strength_reduction.specs.Prelude.{set_bits}
 
 -- the positions below n of the bits of a number that are 1
 abbrev pub bits_below : ℕ → ℕ → List ℕ

@@ -5,9 +5,8 @@ use Rattle.std.proofs.lemmas.Bool.{false≢true}
 use Rattle.std.proofs.lemmas.List.Elements.{All-cons, All-nil, All-head, All-tail}
 use Rattle.std.proofs.Math.Bool.{or_self, or-false}
 use Rattle.gr_word.specs.declared.operations.Op.TheVariants.{Add, Sub, And, Shl, Shr}
-use Rattle.gr_word.specs.Words.{IsWord}
-use Rattle.strength_reduction.specs.Steps.{Step, Constant, Compute, left_by, secrets_after, reads_known, replaced, StepFits, IsQuick}
-use Rattle.strength_reduction.specs.Reduced.{zero_steps, sum_register, sum_steps, product_steps, low_bits, rounding_steps, quotient_steps, remainder_steps, mask_steps}
+use Rattle.gr_word.specs.Prelude.{IsWord}
+use Rattle.strength_reduction.specs.Prelude.{Step, Constant, Compute, left_by, secrets_after, reads_known, replaced, StepFits, IsQuick, zero_steps, sum_register, sum_steps, product_steps, low_bits, rounding_steps, quotient_steps, remainder_steps, mask_steps}
 
 -- a property of each step, step by step
 abbrev Each : (Step → Type 0) → List Step → Type 0

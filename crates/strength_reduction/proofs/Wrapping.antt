@@ -7,7 +7,7 @@ use Rattle.std.proofs.lemmas.Nat.{pow_pos}
 use Rattle.std.proofs.Math.Nat.{add-mod, mod-eq_of_lt, mul_comm}
 use Rattle.std.proofs.Math.Facts.{Fits-of_z}
 use Rattle.gr_word.specs.declared.operations.Op.TheVariants.{Add, Mul, Xor, Shl}
-use Rattle.gr_word.specs.Words.{IsWord, applied, unsigned_of}
+use Rattle.gr_word.specs.Prelude.{IsWord, applied, unsigned_of}
 
 -- a number modulo 2^64, as a word
 abbrev pub wrapped : ℕ → ℤ

@@ -77,17 +77,11 @@ power_of (k ∷ l ∷ bits) = None
 
 -- the steps for the bits of a number
 abbrev pub steps_by_bits : Op → List ℕ → Option (List Step)
-steps_by_bits Add bits = None
-steps_by_bits Sub bits = None
 steps_by_bits Mul bits = if nat_le (length bits) 8 then Some (product_steps bits) else None
 steps_by_bits Div bits = option_map quotient_steps (power_of bits)
 steps_by_bits Rem bits = option_map remainder_steps (power_of bits)
 steps_by_bits Remu bits = option_map mask_steps (power_of bits)
-steps_by_bits And bits = None
-steps_by_bits Or bits = None
-steps_by_bits Xor bits = None
-steps_by_bits Shl bits = None
-steps_by_bits Shr bits = None
+steps_by_bits other bits = None
 
 -- whether a number is a word
 abbrev pub is_word : ℤ → Bool

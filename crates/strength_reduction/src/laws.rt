@@ -1,5 +1,5 @@
 ghost use Rattle.std.specs.Prelude.{◌≡◌, ℤ, List, Some};
-ghost use Rattle.gr_word.specs.Words.{IsWord, applied};
+ghost use Rattle.gr_word.specs.Prelude.{IsWord, applied};
 ghost use Rattle.gr_word.specs.declared.operations.Op.{Op};
 ghost use Rattle.gr_word.specs.declared.operations.Op.TheVariants.{Mul};
 ghost use Rattle.strength_reduction.specs.Reduced.{steps_by_number};

@@ -5,16 +5,10 @@ use Rattle.std.specs.List.{list_any}
 use Rattle.std.proofs.lemmas.Bool.{or_parts, or_from, lt-ltb, ltb-true, and_from, and_parts, true≢false, false_from_ne_true}
 use Rattle.lt_isa.specs.declared.symbols.Note.{Note}
 use Rattle.lt_isa.specs.declared.instructions.Instr.{Instr}
-use Rattle.lt_isa.specs.Object.{Parts}
+use Rattle.lt_isa.specs.Prelude.{Parts}
 use Rattle.stretches.proofs.Standing.{standing-first, standing-rest, standing-head}
-use Rattle.trace_patterns.specs.Patterns.{Shown, no_events, joined}
-use Rattle.trace_patterns.specs.Events.{TreeEvent}
-use Rattle.trace_patterns.specs.SymStates.{SymState}
-use Rattle.trace_patterns.specs.Single.{Goes, single}
-use Rattle.trace_patterns.specs.Shape.{has_note_between}
-use Rattle.stretches.specs.Shows.{Show, pattern_of_one, pattern_of}
-use Rattle.stretches.specs.InArms.{StandsInArm}
-use Rattle.trace_patterns.specs.Walk.{WalksTo, AtEnd, Onward}
+use Rattle.trace_patterns.specs.Prelude.{Shown, no_events, joined, TreeEvent, SymState, Goes, single, has_note_between, WalksTo, AtEnd, Onward}
+use Rattle.stretches.specs.Prelude.{Show, pattern_of_one, pattern_of, StandsInArm}
 use Rattle.stretches.proofs.ShowLaws.{pattern_of-append}
 use Rattle.trace_patterns.proofs.Walks.{walks-then}
 

@@ -7,16 +7,10 @@ use Rattle.std.proofs.lemmas.List.{append-nil}
 use Rattle.gr_word.specs.declared.operations.Cmp.{Cmp}
 use Rattle.lt_isa.specs.declared.instructions.Instr.{Instr}
 use Rattle.lt_isa.specs.declared.instructions.Instr.TheVariants.{Nop, Jmp, Br}
-use Rattle.lt_isa.specs.Object.{Parts}
+use Rattle.lt_isa.specs.Prelude.{Parts}
 use Rattle.stretches.proofs.Standing.{standing-head}
-use Rattle.trace_patterns.specs.Patterns.{Shown, no_events, with_gap, joined}
-use Rattle.trace_patterns.specs.Events.{TreeEvent}
-use Rattle.trace_patterns.specs.SymStates.{SymState, common}
-use Rattle.trace_patterns.specs.Single.{gap, single}
-use Rattle.trace_patterns.specs.Shape.{Arms, shape, most_regions, has_note_between}
-use Rattle.stretches.specs.Shows.{Show, Gap, pattern_of, region_shows}
-use Rattle.stretches.specs.InArms.{StandsInArm}
-use Rattle.trace_patterns.specs.Walk.{WalksTo, AtEnd, Across, CrossesTo, BothArms, untaken_way, taken_way}
+use Rattle.trace_patterns.specs.Prelude.{Shown, no_events, with_gap, joined, TreeEvent, SymState, common, gap, single, Arms, shape, most_regions, has_note_between, WalksTo, AtEnd, Across, CrossesTo, BothArms, untaken_way, taken_way}
+use Rattle.stretches.specs.Prelude.{Show, Gap, pattern_of, region_shows, StandsInArm}
 use Rattle.trace_patterns.proofs.PatternLaws.{no_events-joined, joined-no_events}
 use Rattle.stretches.proofs.ShowLaws.{no_gap, pattern_of-append, pattern_of-gaps, pattern_of-gap}
 use Rattle.trace_patterns.proofs.Shapes.{shape-region}

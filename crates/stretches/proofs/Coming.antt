@@ -2,19 +2,13 @@
 use Rattle.std.proofs.Common.{◌≡◌, ℕ, ◌+◌, ◌≤◌, true, false, ℤ, pos, List, [], ◌∷◌, ◌++◌, Option, Some, None, refl, ap, ◌∙◌, arith}
 use Rattle.std.specs.Prelude.{slice_get, slice_set}
 use Rattle.std.proofs.lemmas.List.{map-append}
-use Rattle.gr_word.specs.Words.{applied, compared}
+use Rattle.gr_word.specs.Prelude.{applied, compared}
 use Rattle.gr_word.specs.declared.operations.Op.{Op}
 use Rattle.gr_word.specs.declared.operations.Cmp.{Cmp}
 use Rattle.lt_isa.specs.declared.instructions.Instr.{Instr}
 use Rattle.lt_isa.specs.declared.instructions.Instr.TheVariants.{Li, Alu, Ldb, Stb, Idb, Ldw, Stw, Jmp, Br}
-use Rattle.lt_isa.specs.Object.{Parts}
-use Rattle.lt_isa.specs.Ranges.{IsInRange}
-use Rattle.lt_isa.specs.Machine.{State, Bound, Observed, register, slot, block_at, word_in, set_register, set_slot, set_block, read_event, write_event}
-use Rattle.lt_isa.specs.Costs.{greatest_cost}
-use Rattle.lt_isa.specs.Step.{Goes, executed, step_start, passed, went_on, loaded, with_bound, target_of, block_named, word_named}
-use Rattle.lt_isa.specs.Shape.{IsShaped}
-use Rattle.lt_isa.specs.Trace.{Stamped, stamped, Here}
-use Rattle.stretches.specs.Coming.{Comes, seen, shown_by}
+use Rattle.lt_isa.specs.Prelude.{Parts, IsInRange, State, Bound, Observed, register, slot, block_at, word_in, set_register, set_slot, set_block, read_event, write_event, greatest_cost, Goes, executed, step_start, passed, went_on, loaded, with_bound, target_of, block_named, word_named, IsShaped, Stamped, stamped, Here}
+use Rattle.stretches.specs.Prelude.{Comes, seen, shown_by}
 use Rattle.lt_isa.proofs.Steps.{step-at, step-by}
 use Rattle.lt_isa.proofs.Shapes.{step-shaped}
 use Rattle.lt_isa.proofs.Stretches.{reaches-step, reaches-append}

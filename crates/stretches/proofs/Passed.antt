@@ -9,13 +9,10 @@ use Rattle.lt_isa.specs.declared.symbols.Note.{Note}
 use Rattle.lt_isa.specs.declared.instructions.Instr.{Instr}
 use Rattle.gr_word.specs.declared.operations.Op.{Op}
 use Rattle.lt_isa.specs.declared.instructions.Instr.TheVariants.{Li, Alu, Ldb, Stb, Idb, Ldw, Stw, Jmp, Br}
-use Rattle.lt_isa.specs.Object.{Parts, is_ram}
-use Rattle.lt_isa.specs.Step.{target_of}
+use Rattle.lt_isa.specs.Prelude.{Parts, is_ram, target_of}
 use Rattle.trace_patterns.specs.declared.reasons.Reason.TheVariants.{JumpOutside, NoteTooLow, SecretAddress, SecretToRam}
-use Rattle.trace_patterns.specs.Known.{Known, is_secret, bank_known, set_secret, set_bank, FitsClaim, note_known}
-use Rattle.trace_patterns.specs.Rules.{Ruling, Falls, Leaves, Opens, refused_if, shows_block, at_bank, at_claim, jumped, note_of_place, claimed_at, ruling_if, ruling_of, ruling_at}
-use Rattle.stretches.specs.Standing.{StandsAt}
-use Rattle.stretches.specs.Passing.{HoldsAt, AsItComes, Passes, Done, Onward, Away, Across, NotesBetween}
+use Rattle.trace_patterns.specs.Prelude.{Known, is_secret, bank_known, set_secret, set_bank, FitsClaim, note_known, Ruling, Falls, Leaves, Opens, refused_if, shows_block, at_bank, at_claim, jumped, note_of_place, claimed_at, ruling_if, ruling_of, ruling_at}
+use Rattle.stretches.specs.Prelude.{StandsAt, HoldsAt, AsItComes, Passes, Done, Onward, Away, Across, NotesBetween}
 use Rattle.trace_patterns.proofs.Notes.{fits-claim}
 use Rattle.stretches.proofs.Standing.{standing-head, standing-tail}
 

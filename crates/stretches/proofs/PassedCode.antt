@@ -2,25 +2,18 @@
 -- last place, whose instruction leaves, is accepted.
 use Rattle.std.proofs.Common.{◌≡◌, ℕ, ◌+◌, ◌-◌, ◌<◌, ◌≤◌, true, false, ℤ, length, Option, Some, None, refl, sym, ap, ◌∙◌, subst, ⊎_elim, arith}
 use Rattle.std.proofs.lemmas.Bool.{cases_lt}
-use Rattle.lt_isa.specs.Object.{Parts}
+use Rattle.lt_isa.specs.Prelude.{Parts}
 use Rattle.trace_patterns.specs.declared.reasons.Reason.{Reason}
-use Rattle.trace_patterns.specs.Patterns.{Shown}
-use Rattle.trace_patterns.specs.Events.{TreeEvent}
-use Rattle.trace_patterns.specs.Known.{Known, start_known, fits}
-use Rattle.trace_patterns.specs.SymStates.{SymState, at_entry, known_after}
-use Rattle.trace_patterns.specs.Rules as rule
-use Rattle.trace_patterns.specs.Rules.{claimed_at, ruling_at}
-use Rattle.trace_patterns.specs.Visits.{VisitedAt, Noted, Unnoted, Starts, FallsTo, JoinsAt, FitsNote, CrossesFrom}
-use Rattle.trace_patterns.specs.Accepts.{Accepts, RefusedAt, has_secret_in_ram}
-use Rattle.stretches.specs.Passing.{HoldsAt, AsItComes, AsClaimed, Passes, Done, Onward, Away, Across}
-use Rattle.stretches.specs.Checked.{StartsFrom, ByComing, ByNote, CheckedUpTo}
+use Rattle.trace_patterns.specs.Prelude.{Shown, TreeEvent, Known, start_known, fits, SymState, at_entry, known_after, claimed_at, ruling_at, VisitedAt, Noted, Unnoted, Starts, FallsTo, JoinsAt, FitsNote, CrossesFrom, Accepts, RefusedAt, has_secret_in_ram}
+use Rattle.stretches.specs.Prelude.{HoldsAt, AsItComes, AsClaimed, Passes, Done, Onward, Away, Across, StartsFrom, ByComing, ByNote, CheckedUpTo}
 use Rattle.trace_patterns.proofs.Notes.{fits-claim}
 use Rattle.trace_patterns.proofs.Walks.{crosses-region}
 use Rattle.region_walk.proofs.WalkRelations.{crosses-crossing}
-use Rattle.lt_checker.specs.ByPlace.{Effect, Falls, Leaves, Joins, joined_at, effect_at, Arrival, Unreached, Here, effect_from, arrival_at, reached_at, refusal_in, refusal_at, NoneBelow}
+use Rattle.lt_checker.specs.Prelude.{Effect, Falls, Leaves, Joins, joined_at, effect_at, Arrival, Unreached, Here, effect_from, arrival_at, reached_at, refusal_in, refusal_at, NoneBelow}
 use Rattle.lt_checker.proofs.Reached.{reached_at-next, effect_from-inside, reached-inside}
 use Rattle.lt_checker.proofs.PlaceRelations.{FitsHere, comes-here, visited-known, no_refusal, effect-ruled, falls_on}
 use Rattle.lt_checker.proofs.Refusals.{fits_tested, none_up_to, refused-found, none_is_accepted}
+use Rattle.trace_patterns.specs.Rules as rule
 
 module _ (o : Parts) where
   unclaimed : {A : Type 0} (p : ℕ) (k : Known) → claimed_at o p ≡ None → claimed_at o p ≡ Some k → A

@@ -2,18 +2,12 @@
 use Rattle.std.proofs.Common.{◌≡◌, ℕ, ◌+◌, ◌<◌, false, ℤ, pos, List, [], ◌∷◌, ◌++◌, length, Some, refl, sym, ap, subst, arith}
 use Rattle.std.specs.Prelude.{slice_get}
 use Rattle.std.proofs.lemmas.List.{get_or-set_same, get_or-set_other, length-append}
-use Rattle.gr_word.specs.Words.{applied}
+use Rattle.gr_word.specs.Prelude.{applied}
 use Rattle.gr_word.specs.declared.operations.Op.{Op}
 use Rattle.lt_isa.specs.declared.instructions.Instr.{Instr}
 use Rattle.lt_isa.specs.declared.instructions.Instr.TheVariants.{Li, Alu, Idb, Ldw}
-use Rattle.lt_isa.specs.Object.{Parts}
-use Rattle.lt_isa.specs.Ranges.{IsInRange}
-use Rattle.lt_isa.specs.Machine.{State, Bound, Observed, register, slot, word_in, set_register}
-use Rattle.lt_isa.specs.Costs.{greatest_cost}
-use Rattle.lt_isa.specs.Step.{passed, word_named}
-use Rattle.lt_isa.specs.Shape.{IsShaped}
-use Rattle.stretches.specs.Standing.{StandsAt, greatest_costs}
-use Rattle.stretches.specs.Coming.{Comes, RunsThrough, Sets}
+use Rattle.lt_isa.specs.Prelude.{Parts, IsInRange, State, Bound, Observed, register, slot, word_in, set_register, greatest_cost, passed, word_named, IsShaped}
+use Rattle.stretches.specs.Prelude.{StandsAt, greatest_costs, Comes, RunsThrough, Sets}
 use Rattle.stretches.proofs.Standing.{standing-first, standing-rest, standing-head, standing-tail, greatest_costs-append}
 use Rattle.stretches.proofs.Coming.{comes-on, comes-weaker, comes-li, comes-alu, comes-idb, comes-ldw}
 

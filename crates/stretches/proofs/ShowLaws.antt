@@ -1,9 +1,7 @@
 -- Laws of patterns that are lists of what is shown in sequence.
 use Rattle.std.proofs.Common.{◌≡◌, ℕ, ◌+◌, List, [], ◌∷◌, ◌++◌, refl, sym, ap, ◌∙◌, arith}
-use Rattle.trace_patterns.specs.Patterns.{Shown, no_events, with_gap, joined}
-use Rattle.trace_patterns.specs.Events.{TreeEvent}
-use Rattle.trace_patterns.specs.Single.{gap}
-use Rattle.stretches.specs.Shows.{Show, Gap, pattern_of_one, pattern_of}
+use Rattle.trace_patterns.specs.Prelude.{Shown, no_events, with_gap, joined, TreeEvent, gap}
+use Rattle.stretches.specs.Prelude.{Show, Gap, pattern_of_one, pattern_of}
 use Rattle.trace_patterns.proofs.PatternLaws.{shown-same, no_events-joined, joined-no_events, joined-assoc, joined-gap, with_gap-more}
 
 -- two lists in sequence are two patterns in sequence

@@ -3,8 +3,8 @@ use Rattle.std.proofs.Common.{◌≡◌, ℕ, ◌+◌, zero, suc, List, [], ◌�
 use Rattle.std.specs.Prelude.{slice_get}
 use Rattle.std.proofs.lemmas.Option.{none-some}
 use Rattle.lt_isa.specs.declared.instructions.Instr.{Instr}
-use Rattle.lt_isa.specs.Object.{Parts}
-use Rattle.stretches.specs.Standing.{StandsAt, greatest_costs}
+use Rattle.lt_isa.specs.Prelude.{Parts}
+use Rattle.stretches.specs.Prelude.{StandsAt, greatest_costs}
 
 slice_get-append_left : {X : Type 0} (xs ys : List X) (k : ℕ) (x : X)
     → slice_get xs k ≡ Some x → slice_get (xs ++ ys) k ≡ Some x

@@ -5,10 +5,8 @@ use Rattle.std.specs.List.{list_any}
 use Rattle.std.specs.Option.{option_map}
 use Rattle.std.proofs.lemmas.Bool.{or_from, and_parts, ltb-true, eq-eqb}
 use Rattle.lt_isa.specs.declared.symbols.Note.{Note}
-use Rattle.lt_isa.specs.Object.{Parts}
-use Rattle.trace_patterns.specs.Known.{Known, note_known}
-use Rattle.trace_patterns.specs.Shape.{has_note_between}
-use Rattle.trace_patterns.specs.Rules.{note_of_place, claimed_at}
+use Rattle.lt_isa.specs.Prelude.{Parts}
+use Rattle.trace_patterns.specs.Prelude.{Known, note_known, has_note_between, note_of_place, claimed_at}
 
 -- no note is found at any place between two places
 NoneFound : List Note → ℕ → ℕ → Type 0

@@ -4,3 +4,4 @@ pub mod Passing
 pub mod Checked
 pub mod Shows
 pub mod InArms
+pub mod Prelude

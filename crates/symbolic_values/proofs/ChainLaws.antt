@@ -1,12 +1,12 @@
 -- Laws of the chains by which a node is found.
-use Rattle.std.proofs.Common.{◌≡◌, ◌≢◌, ℕ, zero, suc, ◌+◌, ◌-◌, ◌^◌, ◌<◌, ◌≤◌, List, [], ◌∷◌, ◌++◌, length, get_or, set, take, slice_get, slice_index, Some, Contains, replicate, refl, sym, ap, ◌∙◌, subst, ⊎_elim, arith, length-append, length-set, get_or-set_same, get_or-set_other}
+use Rattle.std.proofs.Common.{◌≡◌, ◌≢◌, ℕ, zero, suc, ◌+◌, ◌-◌, ◌^◌, ◌<◌, ◌≤◌, List, [], ◌∷◌, ◌++◌, length, set, take, slice_get, slice_index, Some, refl, sym, ap, ◌∙◌, subst, ⊎_elim, arith, length-append, length-set, get_or-set_same, get_or-set_other}
 use Rattle.std.proofs.lemmas.Bool.{cases_lt, cases_eq}
-use Rattle.std.proofs.lemmas.List.{get_or_append_left, get_or-replicate, get_or-take, length-take-le}
-use Rattle.std.proofs.lemmas.Option.{slice_get_within, slice_get-get_or, get_or_from_slice_get}
+use Rattle.std.proofs.lemmas.List.{get_or_append_left, get_or-take, length-take-le}
+use Rattle.std.proofs.lemmas.Option.{get_or_from_slice_get}
 use Rattle.std.proofs.Math.Seq.{get_or-append_seam}
 use Rattle.symbolic_values.specs.declared.nodes.Node.{Node}
 use Rattle.symbolic_values.specs.declared.code_hash.CodeHash.{CodeHash}
-use Rattle.symbolic_values.specs.Chains.{IsLast, AreChained, HasSearchedTo, IsIndexed, bucket_of}
+use Rattle.symbolic_values.specs.Prelude.{IsLast, AreChained, IsIndexed, bucket_of}
 
 -- two items at one place are one
 one_item : {K : Type 0} (xs : List K) (i : ℕ) (x y : K) → slice_get xs i ≡ Some x → slice_get xs i ≡ Some y → x ≡ y
@@ -23,21 +23,6 @@ last_item [] x = refl
 last_item (y ∷ xs) x = last_item xs x
 
 module _ (bucket_of : Node → ℕ) where
-  -- no node is in a chain yet
-  pub chained-none : (nodes : List Node) (heads links : List ℕ) → heads ≡ replicate (length heads) 0
-      → AreChained bucket_of nodes 0 heads links
-  chained-none nodes heads links none = record {
-    from_head = λ bucket inside.
-        let empty : slice_index heads bucket ≡ 0 =
-        ap (λ (l : List ℕ). slice_index l bucket) none ∙ get_or-replicate (length heads) bucket 0 0 inside in
-        subst (IsLast bucket_of nodes bucket 0) (sym empty) (record {
-          within = omega arith;
-          inside = λ n some at. absurd (omega (arith, some));
-          none_after = λ i n from before at. absurd (omega (arith, before));
-        });
-    from_node = λ i n before at. absurd (omega (arith, before));
-  }
-
   -- what is known of the first nodes is also known in another list with the same first nodes and links
   module _ (nodes others : List Node) (count : ℕ)
       (alike : (i : ℕ) → i < count → slice_get others i ≡ slice_get nodes i) where
@@ -162,54 +147,6 @@ module _ (bucket_of : Node → ℕ) where
           (cases_eq bucket (bucket_of n));
       from_node = λ i m before there. chained.from_node i m (omega (arith, before)) there;
     }
-
-  -- the search of a node begins at the head of its bucket
-  pub search-first : (nodes : List Node) (n : Node) (heads links : List ℕ) → bucket_of n < length heads
-      → AreChained bucket_of nodes (length nodes) heads links
-      → HasSearchedTo bucket_of nodes n (slice_index heads (bucket_of n))
-  search-first nodes n heads links inside chained =
-      let last = chained.from_head (bucket_of n) inside in
-      record {
-        within = last.within;
-        inside = last.inside;
-        absent = λ i from there. last.none_after i n from (slice_get_within nodes i n there) there refl;
-      }
-
-  -- and continues at the link of a node that is another one
-  pub search-next : (nodes : List Node) (n : Node) (heads links : List ℕ) (link : ℕ)
-      → AreChained bucket_of nodes (length nodes) heads links → HasSearchedTo bucket_of nodes n link → 0 < link
-      → (slice_get nodes (link - 1) ≡ Some n → ⊥)
-      → HasSearchedTo bucket_of nodes n (slice_index links (link - 1)) × (slice_index links (link - 1) < link)
-  search-next nodes n heads links link chained reached some other =
-      let place = link - 1 in
-      let within : place < length nodes = omega (arith, some, reached.within) in
-      let m = get_or nodes place n in
-      let at : slice_get nodes place ≡ Some m = slice_get-get_or nodes place n within in
-      let same : bucket_of m ≡ bucket_of n = reached.inside m some at in
-      let last : IsLast bucket_of nodes (bucket_of m) place (slice_index links place) =
-      chained.from_node place m within at in (
-        record {
-          within = omega (arith, last.within, within);
-          inside = λ o more there. last.inside o more there ∙ same;
-          absent = λ i from there.
-              ⊎_elim
-              (λ (before : i < place). last.none_after i n from before there (sym same))
-              (λ (late : place ≤ i).
-              ⊎_elim
-              (λ (low : i < link). other (subst (λ (j : ℕ). slice_get nodes j ≡ Some n) (omega (arith, late, low)) there))
-              (λ (high : link ≤ i). reached.absent i high there)
-              (cases_lt i link))
-              (cases_lt i place);
-        },
-        omega (arith, last.within, some),
-      )
-
-  -- if the chain ends, the node is in no place
-  pub search-end : (nodes : List Node) (n : Node) (link : ℕ) → HasSearchedTo bucket_of nodes n link → link ≡ 0
-      → Contains nodes n → ⊥
-  search-end nodes n link reached none found =
-      reached.absent found.0 (omega (arith, none))
-      (slice_get-get_or nodes found.0 n found.1 ∙ ap Some found.2)
 
   -- a new node is added to the chain of its bucket
   pub chained-push : (nodes : List Node) (n : Node) (heads links : List ℕ) → length links ≡ length nodes

@@ -2,7 +2,7 @@
 use Rattle.std.proofs.Common.{◌≡◌, ℕ, zero, suc, ◌+◌, ◌<◌, List, [], ◌∷◌, ◌++◌, length, get_or, take, slice_get, Some, refl, ap, arith}
 use Rattle.symbolic_values.specs.declared.nodes.Node.{Node}
 use Rattle.symbolic_values.specs.declared.node_list.NodeKind.{NodeKind}
-use Rattle.symbolic_values.specs.StoredNodes.{node_of, nodes_of}
+use Rattle.symbolic_values.specs.Prelude.{node_of, nodes_of}
 
 pub length-nodes_of : (kinds : List NodeKind) (words : List ℕ) → length kinds ≡ length words
     → length (nodes_of kinds words) ≡ length words

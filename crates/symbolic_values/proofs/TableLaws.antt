@@ -7,8 +7,7 @@ use Rattle.std.proofs.lemmas.List.Elements.{Contains-get_or}
 use Rattle.std.proofs.lemmas.Option.{slice_get_within, slice_get-get_or, get_or_from_slice_get}
 use Rattle.std.proofs.Math.Seq.{get_or-append_seam}
 use Rattle.symbolic_values.specs.declared.nodes.Node.{Node}
-use Rattle.symbolic_values.specs.Trees.{Value, built, trees_of, tree_of, NamesBelow}
-use Rattle.symbolic_values.specs.Tables.{IsTable, IsNumber, KeepsTrees, PlacedAt}
+use Rattle.symbolic_values.specs.Prelude.{Value, built, trees_of, tree_of, NamesBelow, IsTable, IsNumber, KeepsTrees, PlacedAt}
 use Rattle.symbolic_values.proofs.TreeLaws.{tree_of-append, tree_of-push, tree_of-node, built-injective, names_below-more}
 
 -- a place of a list with one more item is a place of the list, or the last
@@ -26,17 +25,8 @@ push_cases {K} xs y i x at =
     inr (last, sym (get_or-append_seam xs y [] x) ∙ ap (λ (j : ℕ). get_or (xs ++ y ∷ []) j x) (sym last) ∙ here))
     (cases_lt i (length xs))
 
--- equal trees have equal numbers
-pub number-same : (nodes : List Node) (i j : ℕ) (t : Value) → IsTable nodes → IsNumber nodes i t → IsNumber nodes j t
-    → i ≡ j
-number-same nodes i j t table first second =
-    table.distinct i j first.inside second.inside (first.tree ∙ sym second.tree)
-
 -- the table after a node was placed in it
 module _ (old : List Node) (table : IsTable old) (n : Node) (names : NamesBelow (length old) n) where
-  more : List Node
-  more = old ++ n ∷ []
-
   size : length (old ++ n ∷ []) ≡ length old + 1
   size = length-append old (n ∷ [])
 

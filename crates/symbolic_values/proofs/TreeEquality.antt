@@ -1,12 +1,10 @@
 -- The test of trees decides whether they are equal.
-use Rattle.std.proofs.Common.{◌≡◌, ℕ, true, ◌&&◌, ◌==◌, refl, ap, ◌∙◌, subst}
-use Rattle.std.specs.Bool.{Decides}
+use Rattle.std.proofs.Common.{◌≡◌, ℕ, true, ◌&&◌, ◌==◌, refl, ap, ◌∙◌}
 use Rattle.std.proofs.lemmas.Bool.{false≢true, and_parts, and_from, eqb-true, eq-eqb}
 use Rattle.std.proofs.lemmas.Bool.Decides.{Decides-int_eq}
 use Rattle.gr_word.specs.declared.operations.Op.{Op}
 use Rattle.gr_word.specs.declared.operations.Op.TheVariants.{Add, Sub, Mul, Div, Rem, Remu, And, Or, Xor, Shl, Shr}
-use Rattle.symbolic_values.specs.Trees.{Value, Const, Reg, SlotAt, SlotWord, MemWord, Apply}
-use Rattle.symbolic_values.specs.Sameness.{same_op, same_tree}
+use Rattle.symbolic_values.specs.Prelude.{Value, Const, Reg, SlotAt, SlotWord, MemWord, Apply, same_op, same_tree}
 
 -- operations that the test finds equal are equal
 pub same_op-true : (op oq : Op) → same_op op oq ≡ true → op ≡ oq
@@ -69,6 +67,3 @@ same_tree-own (MemWord a i) = and_from (same_tree a a) (same_tree i i) (same_tre
 same_tree-own (Apply op a b) =
     and_from (same_op op op) (same_tree a a && same_tree b b) (same_op-own op)
     (and_from (same_tree a a) (same_tree b b) (same_tree-own a) (same_tree-own b))
-
-pub decides_tree : (t u : Value) → Decides (same_tree t u) (t ≡ u)
-decides_tree t u = (same_tree-true t u, λ e. subst (λ (x : Value). same_tree t x ≡ true) e (same_tree-own t))

@@ -3,17 +3,8 @@ use Rattle.std.proofs.Common.{◌≡◌, ℕ, zero, suc, ◌+◌, ◌<◌, ◌�
 use Rattle.std.proofs.lemmas.List.{get_or_append_left}
 use Rattle.std.proofs.Math.Seq.{get_or-append_seam}
 use Rattle.symbolic_values.specs.declared.nodes.Node.{Node}
+use Rattle.symbolic_values.specs.Prelude.{Value, Const, Reg, SlotAt, SlotWord, MemWord, Apply, tree_at, built, trees_onto, trees_of, tree_of, NamesBelow}
 use Rattle.symbolic_values.specs.declared.nodes.Node.TheVariants as node
-use Rattle.symbolic_values.specs.Trees.{Value, Const, Reg, SlotAt, SlotWord, MemWord, Apply, tree_at, built, trees_onto, trees_of, tree_of, NamesBelow}
-
-pub trees_onto-none : (trees : List Value) → trees_onto trees [] ≡ trees
-unfolding trees_onto
-trees_onto-none trees = refl
-
-pub trees_onto-first : (trees : List Value) (n : Node) (nodes : List Node)
-    → trees_onto trees (n ∷ nodes) ≡ trees_onto (trees ++ built trees n ∷ []) nodes
-unfolding trees_onto
-trees_onto-first trees n nodes = refl
 
 pub trees_onto-append : (trees : List Value) (nodes more : List Node)
     → trees_onto trees (nodes ++ more) ≡ trees_onto (trees_onto trees nodes) more
@@ -62,15 +53,13 @@ tree_of-push nodes n =
 -- the tree of a node depends only on the trees that it names
 pub built-alike : (count : ℕ) (trees more : List Value) (n : Node) → NamesBelow count n
     → ((i : ℕ) → i < count → tree_at trees i ≡ tree_at more i) → built trees n ≡ built more n
-built-alike count trees more (node.Const word) names same = refl
-built-alike count trees more (node.Reg r) names same = refl
-built-alike count trees more (node.SlotAt k) names same = refl
 built-alike count trees more (node.SlotWord k place) names same = ap (SlotWord k) (same place names)
 built-alike count trees more (node.MemWord block place) names same =
     ap (λ (t : Value). MemWord t (tree_at trees place)) (same block names.0)
     ∙ ap (MemWord (tree_at more block)) (same place names.1)
 built-alike count trees more (node.Apply op a b) names same =
     ap (λ (t : Value). Apply op t (tree_at trees b)) (same a names.0) ∙ ap (Apply op (tree_at more a)) (same b names.1)
+built-alike count trees more other names same = refl
 
 -- a node among others that names only trees before it has the tree that is made of these
 onto_node : (trees : List Value) (nodes : List Node) (i : ℕ) (n : Node) → slice_get nodes i ≡ Some n
@@ -133,9 +122,7 @@ module _ (count : ℕ) (trees : List Value)
 
 -- numbers below a count are below a greater one
 pub names_below-more : (count more : ℕ) (n : Node) → count ≤ more → NamesBelow count n → NamesBelow more n
-names_below-more count more (node.Const word) le names = tt
-names_below-more count more (node.Reg r) le names = tt
-names_below-more count more (node.SlotAt k) le names = tt
 names_below-more count more (node.SlotWord k place) le names = omega arith
 names_below-more count more (node.MemWord block place) le names = (omega (arith, names.0), omega (arith, names.1))
 names_below-more count more (node.Apply op a b) le names = (omega (arith, names.0), omega (arith, names.1))
+names_below-more count more other le names = tt

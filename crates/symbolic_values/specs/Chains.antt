@@ -2,12 +2,12 @@
 -- of a bucket are in a chain, from the last to the first. (This project's profile.)
 use Rattle.std.specs.Prelude.{◌≡◌, ◌≢◌, ℕ, ◌-◌, ◌^◌, ◌<◌, ◌≤◌, List, length, slice_get, slice_index, Some, bit_and}
 use Rattle.std.specs.List.{fold}
-use Rattle.std.specs.Hash as fed
-use Rattle.std.specs.Hash.FoldHasher as folding
 use Rattle.symbolic_values.specs.declared.nodes.Node.{Node}
 use Rattle.symbolic_values.specs.declared.code_hash.CodeHash.{CodeHash}
 use Rattle.symbolic_values.specs.declared.node_table.NodeTable.{NodeTable}
 use Rattle.symbolic_values.specs.NodeWords.{node_word}
+use Rattle.std.specs.Hash as fed
+use Rattle.std.specs.Hash.FoldHasher as folding
 
 -- the hash of a node, and its bucket among `count` buckets, by the keys of some code
 unfoldable pub hash_of : CodeHash → Node → ℕ

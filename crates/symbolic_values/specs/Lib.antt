@@ -5,3 +5,4 @@ pub mod StoredNodes
 pub mod Chains
 pub mod Sameness
 pub mod TreeValues
+pub mod Prelude

@@ -3,9 +3,9 @@
 use Rattle.std.specs.Prelude.{ℕ, ◌/◌, ◌%◌, ◌^◌, List, [], ◌∷◌}
 use Rattle.std.specs.Int.{w64, cast_signed}
 use Rattle.symbolic_values.specs.declared.nodes.Node.{Node}
-use Rattle.symbolic_values.specs.declared.nodes.Node.TheVariants as node
 use Rattle.symbolic_values.specs.declared.node_list.NodeKind.{NodeKind}
 use Rattle.symbolic_values.specs.declared.node_list.NodeKind.TheVariants.{Const, Reg, SlotAt, SlotWord, MemWord, Apply}
+use Rattle.symbolic_values.specs.declared.nodes.Node.TheVariants as node
 
 -- the halves of a word
 abbrev pub high_of : ℕ → ℕ

@@ -42,9 +42,7 @@ tree_of nodes i = tree_at (trees_of nodes) i
 
 -- the numbers that a node names are below a count
 abbrev pub NamesBelow : ℕ → Node → Type 0
-NamesBelow count (node.Const word) = Unit {0}
-NamesBelow count (node.Reg r) = Unit {0}
-NamesBelow count (node.SlotAt k) = Unit {0}
 NamesBelow count (node.SlotWord k place) = place < count
 NamesBelow count (node.MemWord block place) = (block < count) × (place < count)
 NamesBelow count (node.Apply op a b) = (a < count) × (b < count)
+NamesBelow count other = Unit {0}

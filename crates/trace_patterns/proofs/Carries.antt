@@ -3,11 +3,8 @@ use Rattle.std.proofs.Common.{◌≡◌, ℕ, ◌+◌, ◌-◌, ℤ, true, false
 use Rattle.gr_word.specs.declared.operations.Cmp.{Cmp}
 use Rattle.lt_isa.specs.declared.instructions.Instr.{Instr}
 use Rattle.lt_isa.specs.declared.instructions.Instr.TheVariants.{Br}
-use Rattle.lt_isa.specs.Object.{Parts}
-use Rattle.trace_patterns.specs.SymStates.{SymState, common}
-use Rattle.trace_patterns.specs.Shape.{Arms}
-use Rattle.trace_patterns.specs.Carried.{only_goes_on, held_behind}
-use Rattle.trace_patterns.specs.Carries.{CarriesTo, Arrived, Along, Through, CarriesOver, ByBoth}
+use Rattle.lt_isa.specs.Prelude.{Parts}
+use Rattle.trace_patterns.specs.Prelude.{SymState, common, Arms, only_goes_on, held_behind, CarriesTo, Arrived, Along, Through, CarriesOver, ByBoth}
 
 -- If one instruction and a join keep a relation, what is carried from two related states is related.
 module _ (o : Parts) (R : SymState → SymState → Type 0)

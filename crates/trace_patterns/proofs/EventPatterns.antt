@@ -2,15 +2,13 @@
 use Rattle.std.proofs.Common.{◌≡◌, ℕ, zero, suc, ◌+◌, ◌<◌, ◌≤◌, List, [], ◌∷◌, length, get_or, map, refl, ap, arith}
 use Rattle.std.proofs.lemmas.List.{map-append}
 use Rattle.std.proofs.lemmas.List.Elements.{All-append, All-push}
-use Rattle.std.specs.Prelude.{All, ◌↔◌}
+use Rattle.std.specs.Prelude.{All}
 use Rattle.symbolic_values.specs.declared.nodes.Node.{Node}
-use Rattle.symbolic_values.specs.Trees.{tree_of}
-use Rattle.symbolic_values.specs.Tables.{IsTable, KeepsTrees}
+use Rattle.symbolic_values.specs.Prelude.{tree_of, IsTable, KeepsTrees}
 use Rattle.trace_patterns.specs.declared.events.SymEvent.{SymEvent}
-use Rattle.trace_patterns.specs.declared.events.SymEvent.TheVariants as event
-use Rattle.trace_patterns.specs.Patterns.{Shown, no_events, with_event, joined, joined_parts}
-use Rattle.trace_patterns.specs.Events.{TreeEvent, RamRead, EncRead, EncWrite, Oram, tree_event, part_of, over_trees, NumberBelow, NumbersBelow}
+use Rattle.trace_patterns.specs.Prelude.{Shown, no_events, with_event, joined, joined_parts, TreeEvent, RamRead, EncRead, EncWrite, Oram, tree_event, part_of, over_trees, NumberBelow, NumbersBelow}
 use Rattle.trace_patterns.proofs.PatternLaws.{shown-same}
+use Rattle.trace_patterns.specs.declared.events.SymEvent.TheVariants as event
 
 module _ (nodes : List Node) (table : IsTable nodes) where
   pub event_of-same : (a b : SymEvent) → NumberBelow (length nodes) a → NumberBelow (length nodes) b
@@ -56,11 +54,6 @@ module _ (nodes : List Node) (table : IsTable nodes) where
       shown-same p q (parts-same p.parts q.parts hp hq (ap (λ (s : Shown TreeEvent). s.parts) e))
       (ap (λ (s : Shown TreeEvent). s.last) e)
 
-  -- patterns over numbers are equal exactly if the patterns over trees are
-  pub patterns_agree : (p q : Shown SymEvent) → NumbersBelow (length nodes) p → NumbersBelow (length nodes) q
-      → (p ≡ q) ↔ (over_trees nodes p ≡ over_trees nodes q)
-  patterns_agree p q hp hq = (ap (over_trees nodes), over_trees-same p q hp hq)
-
 -- adding an event to a pattern over numbers adds its event to the pattern over trees
 pub over_trees-event : (nodes : List Node) (p : Shown SymEvent) (e : SymEvent)
     → over_trees nodes (with_event p e) ≡ with_event (over_trees nodes p) (tree_event nodes e)
@@ -101,10 +94,8 @@ over_trees-keeps old new p keeps h = shown-same _ _ (parts-keep old new keeps p.
 
 -- a number below a count is below a greater count
 below_more : (count more : ℕ) (e : SymEvent) → count ≤ more → NumberBelow count e → NumberBelow more e
-below_more count more (event.RamRead i) le h = omega arith
-below_more count more (event.EncRead i) le h = omega arith
-below_more count more (event.EncWrite i) le h = omega arith
 below_more count more (event.Oram b) le h = tt
+below_more count more other le h = omega arith
 
 -- numbers below a count are below a greater one
 pub numbers_below-more : (count more : ℕ) (p : Shown SymEvent) → count ≤ more → NumbersBelow count p

@@ -7,7 +7,7 @@ use Rattle.std.proofs.lemmas.Bool.{cases_eq, cases_lt, eq-eqb, ne_eqb, false≢t
 use Rattle.std.proofs.lemmas.List.{ext_get_or}
 use Rattle.std.proofs.lemmas.List.FromFn.{get_or-map-range_with_len, length-map-range_with_len}
 use Rattle.std.proofs.lemmas.Nat.Bits.{bit_at_set_same, bit_at_set_other, bit_at_clear_same, bit_at_clear_other, bit_at_and, bit_at_not, bit_at-lt, bit_at_above, bit_at-zero, same_from_bits}
-use Rattle.trace_patterns.specs.Known.{is_marked, claimed_bank, marks, claims, register_fits, registers_fit}
+use Rattle.trace_patterns.specs.Prelude.{is_marked, claimed_bank, marks, claims, register_fits, registers_fit}
 use Rattle.trace_patterns.proofs.Ranges.{all_in, all_at}
 
 -- a mask has one mark for each register

@@ -6,10 +6,8 @@ use Rattle.std.specs.Option.{option_map}
 use Rattle.std.proofs.lemmas.Bool.{cases_lt, or_parts, eqb-true, eq-eqb, and_from, and_parts, lt-ltb, true≢false, false≢true}
 use Rattle.std.proofs.lemmas.List.{get_or_past}
 use Rattle.lt_isa.specs.declared.symbols.Note.{Note}
-use Rattle.lt_isa.specs.Object.{Parts}
-use Rattle.trace_patterns.specs.Known.{Known, is_secret, bank_known, note_known, register_fits, registers_fit, slot_fits, slots_fit, bank_fits, fits, FitsClaim}
-use Rattle.trace_patterns.specs.Shape.{has_note_between}
-use Rattle.trace_patterns.specs.Rules.{note_of_place, claimed_at}
+use Rattle.lt_isa.specs.Prelude.{Parts}
+use Rattle.trace_patterns.specs.Prelude.{Known, is_secret, bank_known, note_known, register_fits, registers_fit, slot_fits, slots_fit, bank_fits, fits, FitsClaim, has_note_between, note_of_place, claimed_at}
 use Rattle.trace_patterns.proofs.Ranges.{all_in, all_at}
 use Rattle.trace_patterns.proofs.Masks.{length-marks, length-claims}
 

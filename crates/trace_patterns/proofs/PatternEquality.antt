@@ -6,10 +6,10 @@ use Rattle.std.proofs.lemmas.Bool.{false≢true, and_parts, and_from}
 use Rattle.std.proofs.lemmas.Bool.Decides.{Decides-eqb}
 use Rattle.std.proofs.lemmas.Slice.Eq.{slice_eq-Decides}
 use Rattle.trace_patterns.specs.declared.events.SymEvent.{SymEvent}
-use Rattle.trace_patterns.specs.declared.events.SymEvent.TheVariants as number
 use Rattle.trace_patterns.specs.contracts.events.SymEventPartialEq.TheImpl.{ghosts}
 use Rattle.trace_patterns.specs.contracts.events.SymEventEq.TheImpl.Laws.{laws-law}
-use Rattle.trace_patterns.specs.Patterns.{Shown}
+use Rattle.trace_patterns.specs.Prelude.{Shown}
+use Rattle.trace_patterns.specs.declared.events.SymEvent.TheVariants as number
 
 -- two pairs are equal if both components are
 decides_pair : {A B : Type 0} (E : A → A → Bool) (F : B → B → Bool) → ((a b : A) → Decides (E a b) (a ≡ b))

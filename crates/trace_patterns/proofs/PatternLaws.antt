@@ -1,7 +1,7 @@
 -- Laws of patterns.
 use Rattle.std.proofs.Common.{◌≡◌, ℕ, ◌+◌, ◌<◌, List, [], ◌∷◌, ◌++◌, length, get_or, set, refl, sym, ap, ◌∙◌, arith, add_comm, add_assoc, append_assoc, zero-add, length-append}
 use Rattle.std.proofs.Math.Seq.{get_or-append_seam, set-append_seam}
-use Rattle.trace_patterns.specs.Patterns.{Shown, with_gap, with_event, joined, joined_parts, no_events}
+use Rattle.trace_patterns.specs.Prelude.{Shown, with_gap, with_event, joined, joined_parts, no_events}
 
 -- appending parts and then adding the pattern's last gap to the first of them joins the two patterns
 pub joined-by_widening : {E : Type 0} (ps qs all : List (ℕ × E)) (start last other : ℕ) (x : ℕ × E) → all ≡ ps ++ qs

@@ -5,10 +5,9 @@ use Rattle.std.proofs.lemmas.Bool.Decides.{nat_tests}
 use Rattle.std.proofs.lemmas.Bool.{not-false, or_parts, or_from, ltb-true, ltb-false, leb-false, eqb-false, lt-ltb, le-ltb, lt-leb, ne_eqb}
 use Rattle.lt_isa.specs.declared.instructions.Instr.{Instr}
 use Rattle.lt_isa.specs.declared.instructions.Instr.TheVariants.{Jmp}
-use Rattle.lt_isa.specs.Object.{Parts}
-use Rattle.lt_isa.specs.Step.{target_of}
+use Rattle.lt_isa.specs.Prelude.{Parts, target_of}
 use Rattle.trace_patterns.specs.declared.reasons.Reason.{Reason}
-use Rattle.trace_patterns.specs.Shape.{RegionShape, BadShape, Arms, first_held, most_regions, leads_back, places_on, is_jump, jump_offset, is_outside, has_note_between, second_arm, join_of, shape_tests, shape}
+use Rattle.trace_patterns.specs.Prelude.{RegionShape, BadShape, Arms, first_held, most_regions, leads_back, places_on, is_jump, jump_offset, is_outside, has_note_between, second_arm, join_of, shape_tests, shape}
 
 -- the places of a region: a branch at p, a second arm that begins at t after a jump, and a join
 pub record IsRegion (o : Parts) (depth end p : ℕ) (offset : ℤ) (t join : ℕ) : Type 0 where

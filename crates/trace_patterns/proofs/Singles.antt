@@ -4,10 +4,9 @@ use Rattle.std.specs.Prelude.{if◌then◌else◌}
 use Rattle.gr_word.specs.declared.operations.Cmp.{Cmp}
 use Rattle.lt_isa.specs.declared.instructions.Instr.{Instr}
 use Rattle.lt_isa.specs.declared.instructions.Instr.TheVariants.{Nop, Halt, Li, Alu, Ldb, Stb, Idb, Ldw, Stw, Jmp, Br}
-use Rattle.lt_isa.specs.Object.{Parts, is_ram, is_eram}
-use Rattle.symbolic_values.specs.Trees.{Value}
-use Rattle.trace_patterns.specs.SymStates.{SymSlot, AnySlot, RamSlot, EramSlot, OramSlot, SymState, tree_held, slot_held}
-use Rattle.trace_patterns.specs.Single.{Single, Refuses, Goes, Branches, at_tree, loads, stores, if_bound, if_stored, single}
+use Rattle.lt_isa.specs.Prelude.{Parts, is_ram, is_eram}
+use Rattle.symbolic_values.specs.Prelude.{Value}
+use Rattle.trace_patterns.specs.Prelude.{SymSlot, AnySlot, RamSlot, EramSlot, OramSlot, SymState, tree_held, slot_held, Single, Refuses, Goes, Branches, at_tree, loads, stores, if_bound, if_stored, single}
 
 -- an instruction that opens no region
 abbrev NoBranch : Single → Type 0
@@ -31,9 +30,7 @@ no_branch_stored s (OramSlot bank) = tt
 
 no_branch_bound : (bound : SymSlot) (go : Single) → NoBranch go → NoBranch (if_bound bound go)
 no_branch_bound AnySlot go h = tt
-no_branch_bound (RamSlot block origin) go h = h
-no_branch_bound (EramSlot block) go h = h
-no_branch_bound (OramSlot bank) go h = h
+no_branch_bound other go h = h
 
 no_branch_word : (bound : SymSlot) (go : Single) → NoBranch go → NoBranch (if_stored bound go)
 no_branch_word AnySlot go h = tt
@@ -54,10 +51,6 @@ no made offset h e = absurd (subst NoBranch e h)
 pub single-branches : (o : Parts) (s : SymState) (i : Instr) (offset : ℤ) → single o s i ≡ Branches offset
     → IsBranch i offset
 unfolding single
-single-branches o s Nop offset e = no _ offset tt e
-single-branches o s Halt offset e = no _ offset tt e
-single-branches o s (Li rd value) offset e = no _ offset tt e
-single-branches o s (Alu op rd ra rb) offset e = no _ offset tt e
 single-branches o s (Ldb k bank r) offset e =
     no (loads o s k bank r) offset
     (no_branch_if (is_ram bank) _ _ (no_branch_tree (tree_held s r) _ (λ t. tt))
@@ -66,11 +59,11 @@ single-branches o s (Stb k) offset e = no _ offset (no_branch_stored s (slot_hel
 single-branches o s (Idb rd k) offset e = no _ offset (no_branch_bound (slot_held s k) _ tt) e
 single-branches o s (Ldw rd k ro) offset e = no _ offset (no_branch_bound (slot_held s k) _ tt) e
 single-branches o s (Stw rs k ro) offset e = no _ offset (no_branch_word (slot_held s k) _ tt) e
-single-branches o s (Jmp by) offset e = no _ offset tt e
 single-branches o s (Br cmp ra rb by) offset e =
     let f : ◌≡◌ {A = Single} (Branches by) (Branches offset) = e in
     let same : by ≡ offset = cc in
     record { cmp = cmp; ra = ra; rb = rb; is = ap (Br cmp ra rb) same }
+single-branches o s other offset e = no _ offset tt e
 
 -- a branch opens a region
 pub branch-single : (o : Parts) (s : SymState) (cmp : Cmp) (ra rb : ℕ) (offset : ℤ)

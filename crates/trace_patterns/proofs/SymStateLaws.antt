@@ -8,16 +8,11 @@ use Rattle.std.proofs.lemmas.List.FromFn.{get_or-map-range_with_len, length-map-
 use Rattle.std.proofs.Math.ListN.{get_or-map}
 use Rattle.lt_isa.specs.declared.instructions.Instr.{Instr}
 use Rattle.lt_isa.specs.declared.instructions.Instr.TheVariants.{Nop, Halt, Li, Alu, Ldb, Stb, Idb, Ldw, Stw, Jmp, Br}
-use Rattle.lt_isa.specs.Object.{Parts, is_ram, is_eram}
-use Rattle.symbolic_values.specs.Trees.{Value, Reg}
-use Rattle.symbolic_values.specs.Sameness.{same_tree}
+use Rattle.lt_isa.specs.Prelude.{Parts, is_ram, is_eram}
+use Rattle.symbolic_values.specs.Prelude.{Value, Reg, same_tree}
 use Rattle.symbolic_values.proofs.TreeEquality.{same_tree-true, same_tree-own}
 use Rattle.trace_patterns.specs.declared.reasons.Reason.{Reason}
-use Rattle.trace_patterns.specs.Patterns.{Shown}
-use Rattle.trace_patterns.specs.Events.{TreeEvent}
-use Rattle.trace_patterns.specs.Known.{Known, is_secret, bank_known}
-use Rattle.trace_patterns.specs.SymStates.{Origin, Entry, Loaded, SymSlot, AnySlot, RamSlot, EramSlot, OramSlot, SymState, tree_held, slot_held, hold_tree, hold_slot, entry_tree, entry_slot, entry_trees, entry_slots, at_entry, slot_bank, known_after, same_origin, common_tree, common_slot, common, IsJoin}
-use Rattle.trace_patterns.specs.Single.{Single, Refuses, Goes, Branches, at_tree, stores, if_bound, if_stored, single}
+use Rattle.trace_patterns.specs.Prelude.{Shown, TreeEvent, Known, is_secret, bank_known, Origin, Entry, Loaded, SymSlot, AnySlot, RamSlot, EramSlot, OramSlot, SymState, tree_held, slot_held, hold_tree, hold_slot, entry_tree, entry_slot, entry_trees, entry_slots, at_entry, slot_bank, known_after, same_origin, common_tree, common_slot, common, IsJoin, Single, Refuses, Goes, Branches, at_tree, stores, if_bound, if_stored, single}
 
 -- the numbers of registers and slots that the machine has
 pub record IsSized (s : SymState) : Type 0 where
@@ -170,13 +165,11 @@ common_slot-cases (EramSlot block) (EramSlot other) =
     slot_if _ _ (same_tree block other) (λ e. ap EramSlot (same_tree-true block other e))
 common_slot-cases (OramSlot bank) (OramSlot other) =
     slot_if _ _ (bank == other) (λ e. ap OramSlot (eqb-true bank other e))
-common_slot-cases (RamSlot block origin) AnySlot = inl refl
 common_slot-cases (RamSlot block origin) (EramSlot other) = inl refl
 common_slot-cases (RamSlot block origin) (OramSlot other) = inl refl
-common_slot-cases (EramSlot block) AnySlot = inl refl
 common_slot-cases (EramSlot block) (RamSlot other origin) = inl refl
 common_slot-cases (EramSlot block) (OramSlot other) = inl refl
-common_slot-cases (OramSlot bank) AnySlot = inl refl
+common_slot-cases other AnySlot = inl refl
 common_slot-cases (OramSlot bank) (RamSlot other origin) = inl refl
 common_slot-cases (OramSlot bank) (EramSlot other) = inl refl
 
@@ -267,9 +260,7 @@ module _ (s : SymState) (sized : IsSized s) where
 
   sized_bound : (bound : SymSlot) (go : Single) → KeepsSize go → KeepsSize (if_bound bound go)
   sized_bound AnySlot go h = sized_refuses _
-  sized_bound (RamSlot block origin) go h = h
-  sized_bound (EramSlot block) go h = h
-  sized_bound (OramSlot bank) go h = h
+  sized_bound other go h = h
 
   sized_stored : (bound : SymSlot) (go : Single) → KeepsSize go → KeepsSize (if_stored bound go)
   sized_stored AnySlot go h = sized_refuses _

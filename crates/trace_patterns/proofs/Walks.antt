@@ -1,10 +1,7 @@
 -- Walks: the places of a region that is crossed, and two walks in sequence.
 use Rattle.std.proofs.Common.{ℕ, ◌+◌, ◌-◌, ◌≤◌, ℤ, sym, subst, arith}
-use Rattle.lt_isa.specs.Object.{Parts}
-use Rattle.trace_patterns.specs.Patterns.{Shown, joined}
-use Rattle.trace_patterns.specs.Events.{TreeEvent}
-use Rattle.trace_patterns.specs.SymStates.{SymState}
-use Rattle.trace_patterns.specs.Walk.{WalksTo, AtEnd, Onward, Across, CrossesTo, BothArms}
+use Rattle.lt_isa.specs.Prelude.{Parts}
+use Rattle.trace_patterns.specs.Prelude.{Shown, joined, TreeEvent, SymState, WalksTo, AtEnd, Onward, Across, CrossesTo, BothArms}
 use Rattle.trace_patterns.proofs.PatternLaws.{no_events-joined, joined-assoc}
 use Rattle.trace_patterns.proofs.Shapes.{IsRegion, shape-arms, shape-wider}
 use Rattle.trace_patterns.proofs.SymStateLaws.{IsSized, single-sized, sized-common}

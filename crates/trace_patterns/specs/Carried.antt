@@ -33,12 +33,7 @@ known_behind k (Alu op rd ra rb) = set_secret k rd (is_secret k ra || is_secret 
 known_behind k (Ldb slot bank r) = set_bank k slot bank
 known_behind k (Idb rd slot) = set_secret k rd (not (slot_shows (bank_known k slot)))
 known_behind k (Ldw rd slot ro) = set_secret k rd (not (slot_is_ram (bank_known k slot)) || is_secret k ro)
-known_behind k Nop = k
-known_behind k Halt = k
-known_behind k (Stb slot) = k
-known_behind k (Stw rs slot ro) = k
-known_behind k (Jmp offset) = k
-known_behind k (Br cmp ra rb offset) = k
+known_behind k other = k
 
 -- In an arm. After a load from plain or encrypted memory at an address that isn't known, nothing is known of the slot.
 abbrev pub ram_loaded : Parts → ℕ → Option Value → SymSlot
@@ -59,9 +54,4 @@ held_behind o s (Alu op rd ra rb) = hold_tree s rd (applied_trees op (tree_held 
 held_behind o s (Ldb k bank r) = hold_slot s k (slot_loaded o bank (tree_held s r))
 held_behind o s (Idb rd k) = hold_tree s rd (block_held (slot_held s k))
 held_behind o s (Ldw rd k ro) = hold_tree s rd (word_held o (slot_held s k) (tree_held s ro))
-held_behind o s Nop = s
-held_behind o s Halt = s
-held_behind o s (Stb k) = s
-held_behind o s (Stw rs k ro) = s
-held_behind o s (Jmp offset) = s
-held_behind o s (Br cmp ra rb offset) = s
+held_behind o s other = s

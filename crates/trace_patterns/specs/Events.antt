@@ -5,8 +5,8 @@ use Rattle.std.specs.Prelude.{ℕ, ◌<◌, List, map, All}
 use Rattle.symbolic_values.specs.declared.nodes.Node.{Node}
 use Rattle.symbolic_values.specs.Trees.{Value, tree_of}
 use Rattle.trace_patterns.specs.declared.events.SymEvent.{SymEvent}
-use Rattle.trace_patterns.specs.declared.events.SymEvent.TheVariants as event
 use Rattle.trace_patterns.specs.Patterns.{Shown}
+use Rattle.trace_patterns.specs.declared.events.SymEvent.TheVariants as event
 
 -- a block of plain memory is read, a block of encrypted memory is read or written, an oblivious bank is accessed
 pub data TreeEvent : Type 0 where

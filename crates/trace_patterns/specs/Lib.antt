@@ -14,3 +14,4 @@ pub mod Accepts
 pub use Rattle.symbolic_values.specs.Trees
 pub use Rattle.symbolic_values.specs.Tables
 pub use Rattle.symbolic_values.specs.Sameness
+pub mod Prelude

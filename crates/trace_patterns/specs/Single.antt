@@ -84,9 +84,7 @@ word_held o _ _ = None
 -- an instruction whose slot must be bound; and an instruction whose slot must be bound, but not to plain memory
 abbrev pub if_bound : SymSlot → Single → Single
 if_bound AnySlot go = Refuses UnboundSlot
-if_bound (RamSlot block origin) go = go
-if_bound (EramSlot block) go = go
-if_bound (OramSlot bank) go = go
+if_bound other go = go
 
 abbrev pub if_stored : SymSlot → Single → Single
 if_stored AnySlot go = Refuses UnboundSlot

@@ -1,8 +1,7 @@
 //! What is known in public code after an instruction.
 
 ghost use Rattle.std.specs.Prelude.{◌≡◌, ◌<◌, ◌||◌, not};
-ghost use Rattle.lt_isa.specs.Object.{is_ram};
-ghost use Rattle.lt_isa.specs.Ranges.{InstrFits};
+ghost use Rattle.lt_isa.specs.Prelude.{is_ram, InstrFits};
 ghost use Rattle.trace_patterns.specs.Carried.{known_behind, slot_is_ram, slot_shows};
 ghost use Rattle.trace_patterns.specs.Known.{bank_known, is_secret, set_secret};
 ghost use Rattle.trace_patterns.specs.Rules.{shows_block};

@@ -3,8 +3,7 @@ use Rattle.std.proofs.Common.{◌≡◌, ℕ, suc, ◌+◌, ◌-◌, ◌*◌, �
 use Rattle.std.proofs.lemmas.List.{append_assoc, append-nil, drop_all, drop_more, take_all, map-append}
 use Rattle.lt_isa.specs.declared.instructions.Instr.{Instr}
 use Rattle.word_selection.specs.declared.effects.Effect.{Effect}
-use Rattle.word_selection.specs.SlotSteps.{SlotStep, instruction_of, code_of}
-use Rattle.word_selection.specs.Selection.{left_register, choice_steps, choices_steps, next_mask_steps, exchange_steps, exchanges_steps, mask_register}
+use Rattle.word_selection.specs.Prelude.{SlotStep, instruction_of, code_of, left_register, choice_steps, choices_steps, next_mask_steps, exchange_steps, exchanges_steps, mask_register}
 
 code_of-append : (to : ℕ) (xs ys : List SlotStep) → code_of to (xs ++ ys) ≡ code_of to xs ++ code_of to ys
 code_of-append to xs ys = map-append (instruction_of to) xs ys

@@ -9,7 +9,7 @@ use Rattle.std.proofs.lemmas.Nat.{and_mask, xor_comm}
 use Rattle.std.proofs.Math.Nat.{mod-eq_of_lt, div-eq_of_lt}
 use Rattle.std.proofs.Math.Facts.{Fits-of_z, Fits-xor}
 use Rattle.gr_word.specs.declared.operations.Op.TheVariants.{Sub, And, Xor, Shr}
-use Rattle.gr_word.specs.Words.{IsWord, applied, unsigned_of}
+use Rattle.gr_word.specs.Prelude.{IsWord, applied, unsigned_of}
 use Rattle.gr_word.proofs.Words.{IsWord-applied}
 
 -- all ones if a test is true, and otherwise 0

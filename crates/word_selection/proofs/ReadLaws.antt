@@ -9,30 +9,19 @@ use Rattle.std.proofs.lemmas.List.Elements.{All-nil}
 use Rattle.std.proofs.lemmas.Nat.{pow_pos, shr_split}
 use Rattle.std.proofs.lemmas.Option.{same_Some, slice_get-get_or}
 use Rattle.std.proofs.Math.Nat.{div-lt_iff_lt-mul}
-use Rattle.gr_word.specs.Fitting.{AreWords}
+use Rattle.gr_word.specs.Prelude.{AreWords, IsWord}
 use Rattle.gr_word.specs.declared.operations.Op.TheVariants.{Sub, And, Xor, Shr}
 use Rattle.lt_isa.specs.declared.instructions.Instr.{Instr}
-use Rattle.lt_isa.specs.Costs.{operation_cost}
-use Rattle.gr_word.specs.Words.{IsWord}
+use Rattle.lt_isa.specs.Prelude.{operation_cost, Parts, block_words, is_ram, IsInRange, Slot, Unbound, Bound, State, register, slot, slot_words, word_in, IsShaped, SlotFits}
 use Rattle.lt_isa.specs.declared.profiles.Profile.{Profile}
-use Rattle.lt_isa.specs.Object.{Parts, block_words, is_ram}
-use Rattle.lt_isa.specs.Ranges.{IsInRange}
-use Rattle.lt_isa.specs.Machine.{Slot, Unbound, Bound, State, register, slot, slot_words, word_in}
-use Rattle.lt_isa.specs.Shape.{IsShaped, SlotFits}
-use Rattle.symbolic_values.specs.Trees.{Value, Const}
-use Rattle.trace_patterns.specs.Known.{Known, is_secret, bank_known}
-use Rattle.trace_patterns.specs.SymStates.{SymSlot, AnySlot, RamSlot, EramSlot, OramSlot, SymState, tree_held, slot_held, slot_bank}
-use Rattle.trace_patterns.specs.Single.{applied_trees, word_held}
-use Rattle.stretches.specs.Shows.{Show, Gap}
-use Rattle.stretches.specs.Standing.{StandsAt}
-use Rattle.stretches.specs.Coming.{RunsThrough}
+use Rattle.symbolic_values.specs.Prelude.{Value, Const}
+use Rattle.trace_patterns.specs.Prelude.{Known, is_secret, bank_known, SymSlot, AnySlot, RamSlot, EramSlot, OramSlot, SymState, tree_held, slot_held, slot_bank, applied_trees, word_held}
+use Rattle.stretches.specs.Prelude.{Show, Gap, StandsAt, RunsThrough}
 use Rattle.stretches.proofs.Passed.{GoesOn}
 use Rattle.stretches.proofs.RunningThrough.{runs-weaker}
 use Rattle.stretches.proofs.ArmCode.{Walked}
-use Rattle.strength_reduction.specs.Steps.{numbered, replaced}
-use Rattle.word_selection.specs.Selected.{IsBound, ReadsWord}
-use Rattle.word_selection.specs.SlotSteps.{SlotStep, Constant, Compute, Combine, Read, Write, Contents, StepFits, IsReading, MayWrite, after, labels_after, trees_after, steps_show, slot_at}
-use Rattle.word_selection.specs.Selection.{choice_steps, choices_steps, read_steps, selected_read, choices_shows, read_shows}
+use Rattle.strength_reduction.specs.Prelude.{numbered, replaced}
+use Rattle.word_selection.specs.Prelude.{IsBound, ReadsWord, SlotStep, Constant, Compute, Combine, Read, Write, Contents, StepFits, IsReading, MayWrite, after, labels_after, trees_after, steps_show, slot_at, choice_steps, choices_steps, read_steps, selected_read, choices_shows, read_shows}
 use Rattle.word_selection.proofs.SlotContents.{HaveWords}
 use Rattle.word_selection.proofs.SlotRuns.{Leaves, runs-steps}
 use Rattle.word_selection.proofs.SlotPasses.{passes-steps}
@@ -250,11 +239,9 @@ passes-read o base size bank p slots k room some count known =
 -- a word of a slot that isn't bound to plain memory has no tree
 no-word : (o : Parts) (x : SymSlot) (bank : ℕ) (t : Option Value) → slot_bank x ≡ Some bank → 1 ≤ bank
     → word_held o x t ≡ None
-no-word o AnySlot bank t e some = refl
 no-word o (RamSlot block origin) bank t e some =
     absurd (let same : 0 ≡ bank = same_Some 0 bank e in omega (arith, same, some))
-no-word o (EramSlot block) bank t e some = refl
-no-word o (OramSlot other) bank t e some = refl
+no-word o other bank t e some = refl
 
 -- the tree that a choice leaves
 choice_tree : Parts → (limit : ℕ) → SymSlot → (number so_far : Option Value) → Option Value

@@ -5,9 +5,8 @@ use Rattle.std.proofs.lemmas.Bool.{le-leb, lt-leb}
 use Rattle.std.proofs.lemmas.Option.{none-some, same_Some}
 use Rattle.std.proofs.Math.Nat.{suc-mul, mul-le-mul_right}
 use Rattle.gr_word.specs.declared.operations.Op.TheVariants.{And, Xor}
-use Rattle.gr_word.specs.Words.{IsWord, applied}
-use Rattle.word_selection.specs.SlotSteps.{with_register, Contents, Read, after_step, after, word_of, slot_at}
-use Rattle.word_selection.specs.Selection.{choice_steps, choices_steps, read_steps}
+use Rattle.gr_word.specs.Prelude.{IsWord, applied}
+use Rattle.word_selection.specs.Prelude.{with_register, Contents, Read, after_step, after, word_of, slot_at, choice_steps, choices_steps, read_steps}
 use Rattle.word_selection.proofs.MaskWords.{shift_of, mask_word, mask_of, mask_made, chosen_is}
 use Rattle.word_selection.proofs.SlotContents.{HaveWords, word-fits}
 

@@ -1,9 +1,9 @@
 -- Registers that steps name, counted from a register of the machine: they are different, and from 0 to `most`.
 use Rattle.std.proofs.Common.{◌≡◌, ◌≢◌, ℕ, ◌+◌, ◌<◌, ◌≤◌, Bool, true, false, cond, eqb, refl, sym, ap, ◌∙◌, arith, inl, inr}
 use Rattle.std.proofs.lemmas.Bool.{eqb-true, false≢true, eq-eqb}
-use Rattle.strength_reduction.specs.Steps.{numbered, replaced}
+use Rattle.strength_reduction.specs.Prelude.{numbered, replaced}
 use Rattle.strength_reduction.proofs.Codes.{numbered_is}
-use Rattle.word_selection.specs.SlotSteps.{IsOutside}
+use Rattle.word_selection.specs.Prelude.{IsOutside}
 
 pub numbered-low : (base most i : ℕ) → i ≤ most → base + most < 32 → numbered base i < 32
 numbered-low base most i low room = omega (arith, numbered_is base i)

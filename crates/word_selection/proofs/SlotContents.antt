@@ -5,12 +5,10 @@ use Rattle.std.specs.Prelude.{slice_set}
 use Rattle.std.proofs.lemmas.Bool.{cases_lt, cases_eq}
 use Rattle.std.proofs.lemmas.List.{get_or_past, get_or-set_same, get_or-set_other, set-get_or}
 use Rattle.std.proofs.lemmas.List.Elements.{All-set}
-use Rattle.gr_word.specs.Words.{IsWord, unsigned_of}
-use Rattle.gr_word.specs.Fitting.{AreWords}
-use Rattle.lt_isa.specs.Machine.{Slot, Unbound, Bound, slot_words}
+use Rattle.gr_word.specs.Prelude.{IsWord, unsigned_of, AreWords}
+use Rattle.lt_isa.specs.Prelude.{Slot, Unbound, Bound, slot_words}
 use Rattle.lt_isa.proofs.Shapes.{IsWord-at}
-use Rattle.word_selection.specs.Selected.{IsBound}
-use Rattle.word_selection.specs.SlotSteps.{word_of, with_word, with_word_at, slot_at}
+use Rattle.word_selection.specs.Prelude.{IsBound, word_of, with_word, with_word_at, slot_at}
 
 -- what is true of a slot, and is true of it with the word, is true of it after the word of any slot was written
 slot-after : (P : Slot → Type 0) (size : ℕ) (slots : List Slot) (j k : ℕ) (at word : ℤ) → P (slot_at slots k)

@@ -2,11 +2,11 @@
 use Rattle.std.proofs.Common.{◌≡◌, ℕ, ◌+◌, ◌<◌, ◌≤◌, Bool, false, not, ◌&&◌, ◌||◌, List, [], ◌∷◌, length, Some, refl, ap, ◌∙◌, arith, length-set}
 use Rattle.std.specs.List.{AllByRecursion}
 use Rattle.lt_isa.specs.declared.instructions.Instr.TheVariants.{Li, Alu, Ldw, Stw}
-use Rattle.lt_isa.specs.Object.{Parts, is_ram}
-use Rattle.trace_patterns.specs.Known.{Known, is_secret, bank_known, set_secret}
+use Rattle.lt_isa.specs.Prelude.{Parts, is_ram}
+use Rattle.trace_patterns.specs.Prelude.{Known, is_secret, bank_known, set_secret}
 use Rattle.stretches.proofs.Passed.{GoesOn, NoMore, One, rules-li, rules-alu, rules-ldw, rules-stw, secret-same, secret-other}
-use Rattle.strength_reduction.specs.Steps.{replaced, numbered}
-use Rattle.word_selection.specs.SlotSteps.{SlotStep, Constant, Compute, Combine, IsOutside, Read, Write, StepFits, labels_after, MayWrite, code_of}
+use Rattle.strength_reduction.specs.Prelude.{replaced, numbered}
+use Rattle.word_selection.specs.Prelude.{SlotStep, Constant, Compute, Combine, IsOutside, Read, Write, StepFits, labels_after, MayWrite, code_of}
 use Rattle.word_selection.proofs.Registers.{numbered-low, outside-other, set-own}
 
 -- what the check knows after code that it passes: the labels of the steps' registers, and the rest as before

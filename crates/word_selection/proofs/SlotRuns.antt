@@ -2,23 +2,15 @@
 use Rattle.std.proofs.Common.{◌≡◌, ℕ, ◌+◌, ◌<◌, ◌≤◌, ℤ, List, [], ◌∷◌, refl, sym, ap, ◌∙◌, arith}
 use Rattle.std.specs.Prelude.{slice_get, slice_set, Some}
 use Rattle.std.specs.List.{AllByRecursion}
-use Rattle.gr_word.specs.Words.{applied}
+use Rattle.gr_word.specs.Prelude.{applied}
 use Rattle.lt_isa.specs.declared.instructions.Instr.{Instr}
 use Rattle.lt_isa.specs.declared.instructions.Instr.TheVariants.{Li, Alu, Ldw, Stw}
-use Rattle.lt_isa.specs.Object.{Parts, block_words}
-use Rattle.lt_isa.specs.Ranges.{IsInRange}
-use Rattle.lt_isa.specs.Machine.{State, Bound, Slot, register, slot, word_in}
-use Rattle.lt_isa.specs.Costs.{greatest_cost}
-use Rattle.lt_isa.specs.Step.{word_named}
-use Rattle.lt_isa.specs.Shape.{IsShaped}
-use Rattle.lt_isa.specs.Trace.{Here}
-use Rattle.stretches.specs.Standing.{StandsAt}
-use Rattle.stretches.specs.Coming.{Comes, RunsThrough, Sets}
+use Rattle.lt_isa.specs.Prelude.{Parts, block_words, IsInRange, State, Bound, Slot, register, slot, word_in, greatest_cost, word_named, IsShaped, Here}
+use Rattle.stretches.specs.Prelude.{StandsAt, Comes, RunsThrough, Sets}
 use Rattle.stretches.proofs.Coming.{comes-stw}
 use Rattle.stretches.proofs.RunningThrough.{runs-cons, runs-weaker, sets-li, sets-alu, sets-ldw}
-use Rattle.strength_reduction.specs.Steps.{numbered, replaced}
-use Rattle.word_selection.specs.Selected.{IsBound}
-use Rattle.word_selection.specs.SlotSteps.{SlotStep, Constant, Compute, Combine, IsOutside, Read, Write, StepFits, Contents, after_step, after, code_of, word_of, with_word_at, with_word, slot_at}
+use Rattle.strength_reduction.specs.Prelude.{numbered, replaced}
+use Rattle.word_selection.specs.Prelude.{IsBound, SlotStep, Constant, Compute, Combine, IsOutside, Read, Write, StepFits, Contents, after_step, after, code_of, word_of, with_word_at, with_word, slot_at}
 use Rattle.word_selection.proofs.Registers.{numbered-low, outside-other, set-own}
 use Rattle.word_selection.proofs.SlotContents.{still-bound}
 

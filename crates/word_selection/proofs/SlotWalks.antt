@@ -4,15 +4,13 @@ use Rattle.std.specs.List.{AllByRecursion}
 use Rattle.std.proofs.lemmas.Bool.{cases_lt}
 use Rattle.gr_word.specs.declared.operations.Op.{Op}
 use Rattle.lt_isa.specs.declared.instructions.Instr.TheVariants.{Li, Alu, Ldw, Stw}
-use Rattle.lt_isa.specs.Object.{Parts}
-use Rattle.lt_isa.specs.Costs.{operation_cost}
-use Rattle.symbolic_values.specs.Trees.{Value, Const}
-use Rattle.trace_patterns.specs.SymStates.{SymSlot, AnySlot, RamSlot, EramSlot, OramSlot, SymState, tree_held, slot_held, slot_bank, hold_tree}
-use Rattle.trace_patterns.specs.Single.{Single, Goes, applied_trees, single, word_held, if_bound, if_stored, gap}
-use Rattle.stretches.specs.Shows.{Gap, pattern_of_one}
+use Rattle.lt_isa.specs.Prelude.{Parts, operation_cost}
+use Rattle.symbolic_values.specs.Prelude.{Value, Const}
+use Rattle.trace_patterns.specs.Prelude.{SymSlot, AnySlot, RamSlot, EramSlot, OramSlot, SymState, tree_held, slot_held, slot_bank, hold_tree, Single, Goes, applied_trees, single, word_held, if_bound, if_stored, gap}
+use Rattle.stretches.specs.Prelude.{Gap, pattern_of_one}
 use Rattle.stretches.proofs.ArmCode.{Walked, walked-none, walked-on}
-use Rattle.strength_reduction.specs.Steps.{replaced, numbered}
-use Rattle.word_selection.specs.SlotSteps.{instruction_of, SlotStep, Constant, Compute, Combine, IsOutside, Read, Write, StepFits, IsReading, trees_after, step_show, steps_show, code_of}
+use Rattle.strength_reduction.specs.Prelude.{replaced, numbered}
+use Rattle.word_selection.specs.Prelude.{instruction_of, SlotStep, Constant, Compute, Combine, IsOutside, Read, Write, StepFits, IsReading, trees_after, step_show, steps_show, code_of}
 use Rattle.word_selection.proofs.Registers.{numbered-low, outside-other, set-own}
 
 pub record Walks (o : Parts) (depth base most : ℕ) (steps : List SlotStep) (trees : ℕ → Option Value)
@@ -27,9 +25,7 @@ pub record Walks (o : Parts) (depth base most : ℕ) (steps : List SlotStep) (tr
 -- a slot whose bank is known is bound, and a word may be written in it if the bank isn't plain memory
 bound-by_bank : (x : SymSlot) (bank : ℕ) (go : Single) → slot_bank x ≡ Some bank → if_bound x go ≡ go
 bound-by_bank AnySlot bank go e = absurd (let f : ◌≡◌ {A = Option ℕ} None (Some bank) = e in cc)
-bound-by_bank (RamSlot block origin) bank go e = refl
-bound-by_bank (EramSlot block) bank go e = refl
-bound-by_bank (OramSlot other) bank go e = refl
+bound-by_bank other bank go e = refl
 
 stored-by_bank : (x : SymSlot) (bank : ℕ) (go : Single) → slot_bank x ≡ Some bank → 1 ≤ bank → if_stored x go ≡ go
 stored-by_bank AnySlot bank go e some = absurd (let f : ◌≡◌ {A = Option ℕ} None (Some bank) = e in cc)

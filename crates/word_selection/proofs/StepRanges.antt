@@ -4,11 +4,10 @@ use Rattle.std.specs.Prelude.{All, slice_get, Some}
 use Rattle.std.specs.List.{AllByRecursion}
 use Rattle.std.proofs.lemmas.List.Elements.{All-cons, All-nil}
 use Rattle.std.proofs.Math.Nat.{mul-le-mul_right}
-use Rattle.gr_word.specs.Words.{IsWord}
-use Rattle.lt_isa.specs.Ranges.{InstrFits}
+use Rattle.gr_word.specs.Prelude.{IsWord}
+use Rattle.lt_isa.specs.Prelude.{InstrFits}
 use Rattle.word_selection.specs.declared.effects.Effect.{Effect}
-use Rattle.word_selection.specs.SlotSteps.{SlotStep, Constant, Compute, Combine, Read, Write, IsOutside, StepFits, OperandFits, instruction_of, code_of}
-use Rattle.word_selection.specs.Selection.{choices_steps, read_steps, selected_read, mask_register, next_mask_steps, exchange_steps, exchanges_steps, write_steps, selected_write}
+use Rattle.word_selection.specs.Prelude.{SlotStep, Constant, Compute, Combine, Read, Write, IsOutside, StepFits, OperandFits, instruction_of, code_of, choices_steps, read_steps, selected_read, mask_register, next_mask_steps, exchange_steps, exchanges_steps, write_steps, selected_write}
 use Rattle.word_selection.proofs.Registers.{numbered-low}
 use Rattle.word_selection.proofs.ReadLaws.{read-fits}
 use Rattle.word_selection.proofs.WriteLaws.{write-fits}

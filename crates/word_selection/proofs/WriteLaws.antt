@@ -6,31 +6,22 @@ use Rattle.std.specs.List.{AllByRecursion}
 use Rattle.std.proofs.lemmas.Nat.{pow_pos, shr_split}
 use Rattle.std.proofs.lemmas.Option.{slice_get-get_or}
 use Rattle.std.proofs.Math.Nat.{div-lt_iff_lt-mul}
-use Rattle.gr_word.specs.Words.{IsWord}
+use Rattle.gr_word.specs.Prelude.{IsWord}
 use Rattle.gr_word.specs.declared.operations.Op.TheVariants.{Sub, And, Xor, Shr}
 use Rattle.lt_isa.specs.declared.profiles.Profile.{Profile}
 use Rattle.lt_isa.specs.declared.instructions.Instr.{Instr}
-use Rattle.lt_isa.specs.Object.{Parts, block_words, is_ram}
-use Rattle.lt_isa.specs.Ranges.{IsInRange}
-use Rattle.lt_isa.specs.Costs.{operation_cost}
-use Rattle.lt_isa.specs.Machine.{Slot, State, register, slot}
-use Rattle.lt_isa.specs.Shape.{IsShaped}
+use Rattle.lt_isa.specs.Prelude.{Parts, block_words, is_ram, IsInRange, operation_cost, Slot, State, register, slot, IsShaped}
 use Rattle.lt_isa.proofs.Shapes.{IsWord-register}
-use Rattle.symbolic_values.specs.Trees.{Value}
-use Rattle.trace_patterns.specs.Known.{Known, is_secret, bank_known}
-use Rattle.trace_patterns.specs.SymStates.{SymState, tree_held, slot_held, slot_bank}
-use Rattle.stretches.specs.Shows.{Show, Gap}
-use Rattle.stretches.specs.Standing.{StandsAt}
-use Rattle.stretches.specs.Coming.{RunsThrough}
+use Rattle.symbolic_values.specs.Prelude.{Value}
+use Rattle.trace_patterns.specs.Prelude.{Known, is_secret, bank_known, SymState, tree_held, slot_held, slot_bank}
+use Rattle.stretches.specs.Prelude.{Show, Gap, StandsAt, RunsThrough}
 use Rattle.stretches.proofs.Passed.{GoesOn}
 use Rattle.stretches.proofs.RunningThrough.{runs-weaker}
 use Rattle.stretches.proofs.ArmCode.{Walked}
-use Rattle.strength_reduction.specs.Steps.{numbered, replaced}
-use Rattle.word_selection.specs.Selected.{IsBound, WritesWord}
-use Rattle.word_selection.specs.SlotSteps.{SlotStep, Constant, Compute, Combine, Read, IsOutside, Write, Contents, StepFits, MayWrite, after, steps_show, with_word}
+use Rattle.strength_reduction.specs.Prelude.{numbered, replaced}
+use Rattle.word_selection.specs.Prelude.{IsBound, WritesWord, SlotStep, Constant, Compute, Combine, Read, IsOutside, Write, Contents, StepFits, MayWrite, after, steps_show, with_word, written_from, mask_register, mask_steps, difference_steps, first_steps, next_mask_steps, exchange_steps, exchanges_steps, write_steps, selected_write, exchanges_shows, write_shows}
 use Rattle.word_selection.specs.declared.effects.Effect.{Effect}
 use Rattle.word_selection.specs.declared.effects.Effect.TheVariants.{Stores, Keeps}
-use Rattle.word_selection.specs.Selection.{written_from, mask_register, mask_steps, difference_steps, first_steps, next_mask_steps, exchange_steps, exchanges_steps, write_steps, selected_write, exchanges_shows, write_shows}
 use Rattle.word_selection.proofs.SlotRuns.{Leaves, runs-steps}
 use Rattle.word_selection.proofs.SlotPasses.{passes-steps}
 use Rattle.word_selection.proofs.SlotWalks.{walks-steps}

@@ -6,12 +6,11 @@ use Rattle.std.proofs.lemmas.Bool.{le-leb, lt-leb}
 use Rattle.std.proofs.lemmas.Option.{none-some, same_Some}
 use Rattle.std.proofs.Math.Nat.{suc-mul, mul-le-mul_right}
 use Rattle.gr_word.specs.declared.operations.Op.TheVariants.{And, Xor}
-use Rattle.gr_word.specs.Words.{IsWord, applied}
-use Rattle.lt_isa.specs.Machine.{Slot}
-use Rattle.word_selection.specs.SlotSteps.{SlotStep, Contents, after, word_of, with_word_at, slot_at}
+use Rattle.gr_word.specs.Prelude.{IsWord, applied}
+use Rattle.lt_isa.specs.Prelude.{Slot}
+use Rattle.word_selection.specs.Prelude.{SlotStep, Contents, after, word_of, with_word_at, slot_at, mask_register, next_mask_steps, first_steps, exchange_steps, exchanges_steps, write_steps}
 use Rattle.word_selection.specs.declared.effects.Effect.{Effect}
 use Rattle.word_selection.specs.declared.effects.Effect.TheVariants.{Stores, Keeps}
-use Rattle.word_selection.specs.Selection.{mask_register, next_mask_steps, first_steps, exchange_steps, exchanges_steps, write_steps}
 use Rattle.word_selection.proofs.MaskWords.{mask_word, mask_of, exchanged_is, restored_is, masks_differ}
 use Rattle.word_selection.proofs.SlotContents.{HaveWords, word-fits, still-words, written-back}
 use Rattle.word_selection.proofs.Reading.{AreMasked, block_mask, positive, up_to}

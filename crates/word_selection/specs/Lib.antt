@@ -1,3 +1,4 @@
 pub mod SlotSteps
 pub mod Selection
 pub mod Selected
+pub mod Prelude

@@ -40,10 +40,8 @@ StepFits base most Used (Write from slot at) = (from ≤ most) × (at ≤ most) 
 -- a step with a constant that is a word, and another register that the machine has
 abbrev pub OperandFits : SlotStep → Type 0
 OperandFits (Constant to value) = IsWord value
-OperandFits (Compute op to left right) = Unit {0}
 OperandFits (Combine op to left outside) = outside < 32
-OperandFits (Read to slot at) = Unit {0}
-OperandFits (Write from slot at) = Unit {0}
+OperandFits other = Unit {0}
 
 -- steps as instructions, where register 0 of the steps is this register of the machine
 abbrev pub instruction_of : ℕ → SlotStep → Instr
@@ -114,11 +112,8 @@ labels_after plain others (step ∷ steps) secret = labels_after plain others st
 
 -- in plain memory no secret is written, and no word whose number is secret
 abbrev pub StepMayWrite : Bool → (ℕ → Bool) → SlotStep → Type 0
-StepMayWrite plain secret (Constant to value) = Unit {0}
-StepMayWrite plain secret (Compute op to left right) = Unit {0}
-StepMayWrite plain secret (Combine op to left outside) = Unit {0}
-StepMayWrite plain secret (Read to slot at) = Unit {0}
 StepMayWrite plain secret (Write from slot at) = (plain && (secret from || secret at)) ≡ false
+StepMayWrite plain secret other = Unit {0}
 
 abbrev pub MayWrite : Bool → (ℕ → Bool) → List SlotStep → (ℕ → Bool) → Type 0
 MayWrite plain others [] secret = Unit {0}
@@ -140,11 +135,8 @@ trees_after o s (step ∷ steps) trees = trees_after o s steps (tree_step o s st
 
 -- steps that write nothing
 abbrev pub IsReading : SlotStep → Type 0
-IsReading (Constant to value) = Unit {0}
-IsReading (Compute op to left right) = Unit {0}
-IsReading (Combine op to left outside) = Unit {0}
-IsReading (Read to slot at) = Unit {0}
 IsReading (Write from slot at) = ⊥
+IsReading other = Unit {0}
 
 -- what the code of steps shows: the cycles of each
 abbrev pub step_show : Profile → SlotStep → Show

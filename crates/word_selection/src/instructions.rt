@@ -1,5 +1,5 @@
 ghost use Rattle.std.specs.Prelude.{◌≡◌, ◌+◌, ◌<◌};
-ghost use Rattle.strength_reduction.specs.Steps.{numbered};
+ghost use Rattle.strength_reduction.specs.Prelude.{numbered};
 ghost use Rattle.word_selection.specs.SlotSteps.{Combine, Compute, Constant, Read, Write, instruction_of};
 
 use gr_word::Op;

@@ -1,10 +1,6 @@
 ghost use Rattle.std.specs.Prelude.{◌≡◌, ◌+◌, ◌*◌, ◌/◌, ◌%◌, ◌<◌, ◌≤◌, ℕ, ℤ, pos, List, [], length, slice_get, slice_index_or, slice_set, Some};
-ghost use Rattle.lt_isa.specs.Machine.{State, register, slot, slot_words, word_in};
-ghost use Rattle.lt_isa.specs.Object.{Parts, block_words};
-ghost use Rattle.lt_isa.specs.Ranges.{IsInRange};
-ghost use Rattle.lt_isa.specs.Shape.{IsShaped};
-ghost use Rattle.stretches.specs.Coming.{RunsThrough};
-ghost use Rattle.stretches.specs.Standing.{StandsAt};
+ghost use Rattle.lt_isa.specs.Prelude.{State, register, slot, slot_words, word_in, Parts, block_words, IsInRange, IsShaped};
+ghost use Rattle.stretches.specs.Prelude.{RunsThrough, StandsAt};
 ghost use Rattle.word_selection.specs.Selected.{IsBound, ReadsWord, WritesWord};
 ghost use Rattle.word_selection.specs.Selection.{selected_read, selected_write};
 ghost use Rattle.word_selection.specs.SlotSteps.{IsOutside, with_word};

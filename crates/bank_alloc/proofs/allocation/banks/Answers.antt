@@ -1,5 +1,5 @@
 use Rattle.std.proofs.Common.{sym}
-use Rattle.src_tree.specs.Trees.{source_of}
+use Rattle.src_tree.specs.Prelude.{source_of}
 use Rattle.bank_alloc.proofs.Placed.{placed_as}
 use Rattle.bank_alloc.proofs.Refusals.{refused, fits, few_banks}
 use Rattle.bank_alloc.proofs.allocation.banks.Goals as goal

@@ -1,5 +1,5 @@
 use Rattle.std.proofs.Common.{◌≡◌, drop}
-use Rattle.bank_alloc.specs.Lacks.{first_full}
+use Rattle.bank_alloc.specs.Prelude.{first_full}
 use Rattle.bank_alloc.proofs.allocation.first_full.Given as goal
 
 abbrev pub invariant-loop-bank : goal.invariant-loop-bank

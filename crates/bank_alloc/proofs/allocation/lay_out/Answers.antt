@@ -1,10 +1,7 @@
 use Rattle.std.proofs.Common.{ap, ◌∙◌, []}
-use Rattle.src_tree.specs.Contexts.{context_of}
-use Rattle.src_tree.specs.Trees.{source_of, block_of_all}
-use Rattle.bank_alloc.specs.Indexes.{secret_index_in_block}
-use Rattle.gr_base.specs.NameMaps.{found_under}
-use Rattle.bank_alloc.specs.Known.{class_in}
-use Rattle.bank_alloc.specs.Places.{places_behind}
+use Rattle.src_tree.specs.Prelude.{context_of, source_of, block_of_all}
+use Rattle.bank_alloc.specs.Prelude.{secret_index_in_block, class_in, places_behind}
+use Rattle.gr_base.specs.Prelude.{found_under}
 use Rattle.bank_alloc.proofs.PlacedBehind.{classes_are, laid_out}
 use Rattle.bank_alloc.proofs.allocation.lay_out.Goals as goal
 

@@ -1,5 +1,5 @@
 use Rattle.std.proofs.Common.{◌≡◌, map, take}
-use Rattle.bank_alloc.specs.Known.{class_in}
+use Rattle.bank_alloc.specs.Prelude.{class_in}
 use Rattle.bank_alloc.proofs.classes.classes_in.Given as goal
 
 abbrev pub invariant-loop-decl : goal.invariant-loop-decl

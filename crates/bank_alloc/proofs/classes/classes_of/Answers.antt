@@ -1,12 +1,10 @@
 use Rattle.std.proofs.Common.{◌≡◌, ap, ◌∙◌, List, map, subst}
 use Rattle.std.specs.Prelude.{IfOk}
 use Rattle.src_tree.specs.declared.trees.Decl.{Decl}
-use Rattle.src_tree.specs.Contexts.{context_of}
-use Rattle.src_tree.specs.Trees.{source_of, block_of_all}
-use Rattle.gr_base.specs.NameMaps.{found_under}
+use Rattle.src_tree.specs.Prelude.{context_of, source_of, block_of_all}
+use Rattle.gr_base.specs.Prelude.{found_under}
 use Rattle.bank_alloc.specs.declared.classes.Class.{Class}
-use Rattle.bank_alloc.specs.Indexes.{secret_index_in_block}
-use Rattle.bank_alloc.specs.Known.{class_in}
+use Rattle.bank_alloc.specs.Prelude.{secret_index_in_block, class_in}
 use Rattle.bank_alloc.proofs.PlacedBehind.{classes_are}
 use Rattle.bank_alloc.proofs.classes.classes_of.Goals as goal
 

@@ -1,9 +1,8 @@
 use Rattle.std.proofs.Common.{◌≡◌, ℕ, List, drop}
 use Rattle.std.specs.Prelude.{◌||◌}
-use Rattle.src_tree.specs.Trees.{block_of_all}
-use Rattle.bank_alloc.specs.Indexes.{secret_index_in_block}
-use Rattle.gr_base.specs.NameMaps.{found_under}
-use Rattle.bank_alloc.specs.Known.{is_member}
+use Rattle.src_tree.specs.Prelude.{block_of_all}
+use Rattle.bank_alloc.specs.Prelude.{secret_index_in_block, is_member}
+use Rattle.gr_base.specs.Prelude.{found_under}
 use Rattle.bank_alloc.proofs.indexes.+walks.Given as goal
 
 abbrev pub invariant-walk_block-loop-statement : goal.invariant-walk_block-loop-statement

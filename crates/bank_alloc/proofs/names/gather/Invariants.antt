@@ -1,6 +1,6 @@
 use Rattle.std.proofs.Common.{◌≡◌, take}
-use Rattle.src_tree.specs.Contexts.{context_of}
-use Rattle.gr_base.specs.NameMaps.{found_under}
+use Rattle.src_tree.specs.Prelude.{context_of}
+use Rattle.gr_base.specs.Prelude.{found_under}
 use Rattle.bank_alloc.proofs.names.gather.Given as goal
 
 abbrev pub invariant-loop-decl : goal.invariant-loop-decl

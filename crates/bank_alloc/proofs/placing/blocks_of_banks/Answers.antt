@@ -1,4 +1,4 @@
-use Rattle.bank_alloc.specs.Places.{first_free_block}
+use Rattle.bank_alloc.specs.Prelude.{first_free_block}
 use Rattle.bank_alloc.proofs.PlacedBehind.{blocks_more}
 use Rattle.bank_alloc.proofs.placing.blocks_of_banks.Goals as goal
 

@@ -1,6 +1,6 @@
 use Rattle.std.proofs.Common.{◌≡◌, map}
 use Rattle.std.specs.List.{range_with_len}
-use Rattle.bank_alloc.specs.Places.{first_free_block}
+use Rattle.bank_alloc.specs.Prelude.{first_free_block}
 use Rattle.bank_alloc.proofs.placing.blocks_of_banks.Given as goal
 
 abbrev pub invariant-loop-bank : goal.invariant-loop-bank

@@ -1,6 +1,6 @@
 use Rattle.std.proofs.Common.{◌≡◌, ◌+◌, ◌*◌, ◌≤◌, take}
-use Rattle.src_tree.specs.Limits.{max_length}
-use Rattle.bank_alloc.specs.Places.{first_free_block}
+use Rattle.src_tree.specs.Prelude.{max_length}
+use Rattle.bank_alloc.specs.Prelude.{first_free_block}
 use Rattle.bank_alloc.proofs.placing.first_free.Given as goal
 
 abbrev pub invariant-loop-place : goal.invariant-loop-place

@@ -1,7 +1,6 @@
 use Rattle.std.proofs.Common.{◌≡◌, ◌+◌, ◌≤◌, ◌∙◌, ap, sym, subst, length, arith}
-use Rattle.bank_alloc.specs.Known.{class_in}
-use Rattle.bank_alloc.specs.Places.{place_behind}
-use Rattle.src_tree.specs.Limits.{max_length, words_of}
+use Rattle.bank_alloc.specs.Prelude.{class_in, place_behind}
+use Rattle.src_tree.specs.Prelude.{max_length, words_of}
 use Rattle.bank_alloc.proofs.PlacedBehind.{places_more, places_all, few_more}
 use Rattle.bank_alloc.proofs.placing.places_in.Goals as goal
 

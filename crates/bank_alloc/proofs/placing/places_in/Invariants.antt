@@ -1,7 +1,5 @@
 use Rattle.std.proofs.Common.{◌≡◌, [], ◌++◌, length, drop}
-use Rattle.bank_alloc.specs.Known.{class_in}
-use Rattle.bank_alloc.specs.Lacks.{AreFew}
-use Rattle.bank_alloc.specs.Places.{places_behind}
+use Rattle.bank_alloc.specs.Prelude.{class_in, AreFew, places_behind}
 use Rattle.bank_alloc.proofs.placing.places_in.Given as goal
 
 abbrev pub invariant-loop-decl : goal.invariant-loop-decl

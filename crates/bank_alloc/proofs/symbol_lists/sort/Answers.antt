@@ -1,6 +1,6 @@
 use Rattle.std.proofs.Common.{rules}
 use Rattle.std.proofs.lemmas.List.Sorted.{IsNonDecreasingBy-from_sort_by_key}
-use Rattle.bank_alloc.specs.Keys.{symbol_key}
+use Rattle.bank_alloc.specs.Prelude.{symbol_key}
 use Rattle.bank_alloc.proofs.symbol_lists.sort.Goals as goal
 
 pub returns-in-Ok-clause-order : goal.returns-in-Ok-clause-order

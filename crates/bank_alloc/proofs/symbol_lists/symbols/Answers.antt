@@ -2,12 +2,12 @@ use Rattle.std.proofs.Common.{List, length, subst, ap, ◌∙◌, arith}
 use Rattle.std.specs.Prelude.{IsTrue}
 use Rattle.std.specs.List.{All}
 use Rattle.std.specs.List.Sorted.{IsPermutation}
-use Rattle.gr_word.specs.Names.{is_name}
+use Rattle.gr_word.specs.Prelude.{is_name}
 use Rattle.lt_isa.specs.declared.symbols.Symbol.{Symbol}
 use Rattle.src_tree.specs.declared.trees.Decl.{Decl}
-use Rattle.src_tree.specs.Trees.{source_of}
+use Rattle.src_tree.specs.Prelude.{source_of}
 use Rattle.bank_alloc.specs.declared.places.Place.{Place}
-use Rattle.bank_alloc.specs.Layout.{placed_symbols}
+use Rattle.bank_alloc.specs.Prelude.{placed_symbols}
 use Rattle.bank_alloc.proofs.SymbolOrder.{symbols_sorted, symbols_in_range}
 use Rattle.bank_alloc.proofs.symbol_lists.symbols.Goals as goal
 

@@ -1,8 +1,8 @@
 use Rattle.std.proofs.Common.{◌≡◌, ◌++◌, drop}
 use Rattle.std.specs.List.{All}
 use Rattle.std.specs.Prelude.{IsTrue}
-use Rattle.gr_word.specs.Names.{is_name}
-use Rattle.bank_alloc.specs.Layout.{placed_symbols}
+use Rattle.gr_word.specs.Prelude.{is_name}
+use Rattle.bank_alloc.specs.Prelude.{placed_symbols}
 use Rattle.bank_alloc.proofs.symbol_lists.symbols_at.Given as goal
 
 abbrev pub invariant-loop-i : goal.invariant-loop-i

@@ -1,7 +1,7 @@
 use Rattle.std.proofs.Common.{◌≡◌, pos, ap, ◌∙◌, rules, w64, to_z, of_z}
 use Rattle.std.proofs.lemmas.Int.{wraps}
 use Rattle.std.proofs.lemmas.Result.{on_ok_weaker}
-use Rattle.block_cache_gen.specs.Variables.{home_in}
+use Rattle.block_cache_gen.specs.Prelude.{home_in}
 use Rattle.block_cache_gen.proofs.EmittedTrees.{shift_appended}
 use Rattle.block_cache_gen.proofs.accesses.put_block.Goals as goal
 

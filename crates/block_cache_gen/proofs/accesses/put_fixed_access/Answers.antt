@@ -1,9 +1,7 @@
 use Rattle.std.proofs.Common.{◌≡◌, ℤ, rules, w64, to_z, of_z, subst, sym, ◌∙◌}
 use Rattle.std.proofs.lemmas.Result.{on_ok_weaker}
 use Rattle.std.proofs.lemmas.Int.{wraps}
-use Rattle.block_cache_gen.specs.Codes.{fixed_code}
-use Rattle.block_cache_gen.specs.Emitted.{Appended, no_notes}
-use Rattle.block_cache_gen.specs.Variables.{home_in}
+use Rattle.block_cache_gen.specs.Prelude.{fixed_code, Appended, no_notes, home_in}
 use Rattle.block_cache_gen.proofs.EmittedTrees.{fixed_loaded}
 use Rattle.block_cache_gen.proofs.Emitting.{grows_then}
 use Rattle.block_cache_gen.proofs.accesses.put_fixed_access.Goals as goal

@@ -1,12 +1,8 @@
-use Rattle.std.proofs.Common.{sym, ◌∙◌, subst}
+use Rattle.std.proofs.Common.{sym, ◌∙◌, subst, length, ◌+◌, ◌++◌, None}
 use Rattle.std.proofs.lemmas.Result.{on_ok_weaker}
-use Rattle.std.proofs.Common.{length, ◌+◌, ◌++◌, None}
-use Rattle.src_tree.specs.Trees.{expr_tree}
+use Rattle.src_tree.specs.Prelude.{expr_tree}
 use Rattle.block_cache_gen.specs.declared.indexes.Numbering.{Numbering}
-use Rattle.block_cache_gen.specs.Codes.{numbered_code, numbered_register, offset_code, shift_code}
-use Rattle.block_cache_gen.specs.Emitted.{Appended}
-use Rattle.block_cache_gen.specs.Notes.{compared_notes}
-use Rattle.block_cache_gen.specs.Variables.{home_in}
+use Rattle.block_cache_gen.specs.Prelude.{numbered_code, numbered_register, offset_code, shift_code, Appended, compared_notes, home_in}
 use Rattle.block_cache_gen.proofs.EmittedTrees.{found_placed, found_loaded}
 use Rattle.block_cache_gen.proofs.accesses.put_found_access.Goals as goal
 

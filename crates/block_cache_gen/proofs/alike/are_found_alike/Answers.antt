@@ -1,5 +1,5 @@
 use Rattle.std.proofs.Common.{Bool, ◌&&◌, pos, sym, ap, ◌∙◌}
-use Rattle.block_cache_gen.specs.Alike.{numbers_alike}
+use Rattle.block_cache_gen.specs.Prelude.{numbers_alike}
 use Rattle.block_cache_gen.proofs.alike.are_found_alike.Goals as goal
 
 pub returns-then-reducers_alike : goal.returns-then-reducers_alike

@@ -1,9 +1,8 @@
 use Rattle.std.proofs.Common.{◌≡◌, ap, ◌∙◌, rules, w64, to_z, of_z}
 use Rattle.std.specs.Prelude.{is_some}
 use Rattle.std.proofs.lemmas.Int.{wraps}
-use Rattle.held_registers.specs.Held.{register_of_number}
-use Rattle.block_cache_gen.specs.Alike.{same_flag}
-use Rattle.block_cache_gen.specs.Codes.{held_number}
+use Rattle.held_registers.specs.Prelude.{register_of_number}
+use Rattle.block_cache_gen.specs.Prelude.{same_flag, held_number}
 use Rattle.block_cache_gen.proofs.alike.numbers_alike.Goals as goal
 
 pub returns : goal.returns

@@ -1,9 +1,7 @@
 use Rattle.std.proofs.Common.{◌≡◌, ◌+◌, ◌-◌, ◌≤◌, length}
 use Rattle.gr_word.specs.declared.variables.Label.{Label}
-use Rattle.src_tree.specs.Contexts.{context_of}
-use Rattle.src_tree.specs.Trees.{block_of_all}
-use Rattle.src_tree.specs.Typing.{TypedBlock}
-use Rattle.block_cache_gen.specs.Alike.{pair_count}
+use Rattle.src_tree.specs.Prelude.{context_of, block_of_all, TypedBlock}
+use Rattle.block_cache_gen.specs.Prelude.{pair_count}
 use Rattle.block_cache_gen.proofs.PairCounts.{from}
 use Rattle.block_cache_gen.proofs.alike.pair_count.Given as goal
 

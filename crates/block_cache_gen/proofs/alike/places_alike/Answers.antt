@@ -1,6 +1,6 @@
 use Rattle.std.proofs.Common.{◌≡◌, pos, ◌∙◌, rules, w64, to_z, of_z}
 use Rattle.std.proofs.lemmas.Int.{wraps}
-use Rattle.block_cache_gen.specs.Alike.{numbers_alike}
+use Rattle.block_cache_gen.specs.Prelude.{numbers_alike}
 use Rattle.block_cache_gen.proofs.alike.places_alike.Goals as goal
 
 pub returns : goal.returns

@@ -1,6 +1,6 @@
 use Rattle.std.proofs.Common.{None, ◌∙◌}
 use Rattle.std.proofs.lemmas.Result.{on_ok_weaker}
-use Rattle.src_tree.specs.Trees.{expr_tree}
+use Rattle.src_tree.specs.Prelude.{expr_tree}
 use Rattle.block_cache_gen.proofs.EmittedStatements.{with_base}
 use Rattle.block_cache_gen.proofs.FrameClauses.{frame-expr_promises}
 use Rattle.block_cache_gen.proofs.FrameCalls.{frame_expr, on_ok_both}

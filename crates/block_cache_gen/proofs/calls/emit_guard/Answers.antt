@@ -1,6 +1,6 @@
 use Rattle.std.proofs.Common.{◌∙◌}
 use Rattle.std.proofs.lemmas.Result.{on_ok_weaker}
-use Rattle.src_tree.specs.Trees.{test_of}
+use Rattle.src_tree.specs.Prelude.{test_of}
 use Rattle.block_cache_gen.proofs.FrameClauses.{frame-test_promises}
 use Rattle.block_cache_gen.proofs.FrameCalls.{frame_guard, on_ok_both}
 use Rattle.block_cache_gen.proofs.calls.emit_guard.Goals as goal

@@ -1,8 +1,6 @@
 use Rattle.std.proofs.Common.{subst, sym, ◌∙◌}
-use Rattle.src_tree.specs.Contexts.{context_of}
-use Rattle.src_tree.specs.Trees.{source_of, statement_of}
-use Rattle.src_tree.specs.Typing.{TypedStatement}
-use Rattle.block_cache_gen.specs.Homes.{Setting}
+use Rattle.src_tree.specs.Prelude.{context_of, source_of, statement_of, TypedStatement}
+use Rattle.block_cache_gen.specs.Prelude.{Setting}
 use Rattle.gr_word.specs.declared.variables.Label.TheVariants.{Public}
 use Rattle.std.proofs.lemmas.Result.{on_ok_weaker}
 use Rattle.block_cache_gen.proofs.AssignmentsMean.{assignment_means}

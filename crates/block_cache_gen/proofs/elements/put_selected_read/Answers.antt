@@ -1,10 +1,8 @@
 use Rattle.std.proofs.Common.{◌+◌, ℕ, List, ◌++◌, ◌∙◌, ap, refl, take}
 use Rattle.std.proofs.lemmas.Result.{on_ok_weaker}
 use Rattle.lt_isa.specs.declared.instructions.Instr.{Instr}
-use Rattle.word_selection.specs.Selection.{selected_read}
-use Rattle.block_cache_gen.specs.Emitted.{no_notes}
-use Rattle.block_cache_gen.specs.Homes.{slots_of_home, words_a_block}
-use Rattle.block_cache_gen.specs.Variables.{home_in}
+use Rattle.word_selection.specs.Prelude.{selected_read}
+use Rattle.block_cache_gen.specs.Prelude.{no_notes, slots_of_home, words_a_block, home_in}
 use Rattle.block_cache_gen.proofs.ElementSlots.{read_is}
 use Rattle.block_cache_gen.proofs.Emitting.{appended_as}
 use Rattle.block_cache_gen.proofs.elements.put_selected_read.Goals as goal

@@ -1,11 +1,8 @@
 use Rattle.std.proofs.Common.{ℕ, ◌≤◌, ◌+◌, List, ◌++◌, ◌∙◌, ap, arith, length, refl, rules, take}
 use Rattle.std.proofs.lemmas.Result.{on_ok_weaker}
 use Rattle.lt_isa.specs.declared.instructions.Instr.{Instr}
-use Rattle.word_selection.specs.Selection.{selected_write}
-use Rattle.block_cache_gen.specs.Codes.{stored_among}
-use Rattle.block_cache_gen.specs.Emitted.{no_notes}
-use Rattle.block_cache_gen.specs.Homes.{further_slots}
-use Rattle.block_cache_gen.specs.Variables.{home_in}
+use Rattle.word_selection.specs.Prelude.{selected_write}
+use Rattle.block_cache_gen.specs.Prelude.{stored_among, no_notes, further_slots, home_in}
 use Rattle.block_cache_gen.proofs.ElementSlots.{write_is}
 use Rattle.block_cache_gen.proofs.Emitting.{appended_as}
 use Rattle.block_cache_gen.proofs.elements.put_stored_among.Goals as goal

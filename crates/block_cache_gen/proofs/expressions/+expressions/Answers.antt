@@ -2,12 +2,9 @@ use Rattle.std.proofs.Common.{◌≡◌, ◌∙◌, ap, rules, sym, subst, Some,
 use Rattle.std.specs.Prelude.{OnSome, option_map, vec_items}
 use Rattle.std.proofs.lemmas.Int.{wraps}
 use Rattle.std.proofs.lemmas.Result.{on_ok_weaker}
-use Rattle.src_tree.specs.Trees.{expr_tree}
-use Rattle.strength_reduction.specs.Steps.{code_of}
-use Rattle.block_cache_gen.specs.Codes.{left_operand, steps_at}
-use Rattle.block_cache_gen.specs.Emitted.{EmitsOperand}
-use Rattle.block_cache_gen.specs.TreeWords.{HasWords}
-use Rattle.block_cache_gen.specs.Variables.{home_in}
+use Rattle.src_tree.specs.Prelude.{expr_tree}
+use Rattle.strength_reduction.specs.Prelude.{code_of}
+use Rattle.block_cache_gen.specs.Prelude.{left_operand, steps_at, EmitsOperand, HasWords, home_in}
 use Rattle.block_cache_gen.proofs.Emitting.{grows_then}
 use Rattle.block_cache_gen.proofs.EmittedTrees.{access_fixed, access_worked, element_appended, operation_appended, room_for_found, room_behind_left, steps-low}
 use Rattle.block_cache_gen.proofs.expressions.+expressions.Goals as goal

@@ -1,6 +1,5 @@
 use Rattle.std.proofs.Common.{◌+◌, ◌*◌}
-use Rattle.src_tree.specs.Limits.{tree_weight}
-use Rattle.src_tree.specs.Trees.{expr_tree}
+use Rattle.src_tree.specs.Prelude.{tree_weight, expr_tree}
 use Rattle.block_cache_gen.proofs.expressions.+expressions.Given as goal
 
 abbrev pub decreases-put_expr : goal.decreases-put_expr

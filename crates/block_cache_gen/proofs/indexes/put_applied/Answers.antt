@@ -3,9 +3,8 @@ use Rattle.std.proofs.lemmas.Int.{wraps}
 use Rattle.std.proofs.lemmas.Result.{on_ok_weaker}
 use Rattle.lt_isa.specs.declared.instructions.Instr.{Instr}
 use Rattle.lt_isa.specs.declared.instructions.Instr.TheVariants.{Li, Alu}
-use Rattle.held_registers.specs.Held.{register_of_number}
-use Rattle.block_cache_gen.specs.Codes.{operand_part, operand_register, applied_code}
-use Rattle.block_cache_gen.specs.Emitted.{no_notes}
+use Rattle.held_registers.specs.Prelude.{register_of_number}
+use Rattle.block_cache_gen.specs.Prelude.{operand_part, operand_register, applied_code, no_notes}
 use Rattle.block_cache_gen.proofs.Emitting.{appended_as}
 use Rattle.block_cache_gen.proofs.indexes.put_applied.Goals as goal
 

@@ -1,8 +1,7 @@
 use Rattle.std.proofs.Common.{◌≡◌, pos, ◌+ℤ◌, rules, w64, to_z, of_z}
 use Rattle.std.proofs.lemmas.Int.{wraps}
 use Rattle.std.proofs.lemmas.Result.{on_ok_weaker}
-use Rattle.block_cache_gen.specs.Codes.{least_word}
-use Rattle.block_cache_gen.specs.Variables.{home_in}
+use Rattle.block_cache_gen.specs.Prelude.{least_word, home_in}
 use Rattle.block_cache_gen.proofs.EmittedTrees.{compared_noted}
 use Rattle.block_cache_gen.proofs.indexes.put_compared.Goals as goal
 

@@ -1,8 +1,8 @@
 use Rattle.std.proofs.Common.{◌≡◌, sym, ap, ◌∙◌, rules, w64, to_z, of_z}
 use Rattle.std.proofs.lemmas.Int.{wraps}
-use Rattle.src_tree.specs.Trees.{expr_tree}
-use Rattle.held_registers.specs.Held.{register_of_number}
-use Rattle.block_cache_gen.specs.Codes.{operand}
+use Rattle.src_tree.specs.Prelude.{expr_tree}
+use Rattle.held_registers.specs.Prelude.{register_of_number}
+use Rattle.block_cache_gen.specs.Prelude.{operand}
 use Rattle.block_cache_gen.proofs.operands.operand.Goals as goal
 
 pub returns-in-Num-clause-register : goal.returns-in-Num-clause-register

@@ -1,10 +1,9 @@
 use Rattle.std.proofs.Common.{◌≡◌, true, false, sym, ap, ◌∙◌}
-use Rattle.block_cache_gen.specs.Homes.{label_by}
-use Rattle.block_cache_gen.specs.Notes.{is_public}
-use Rattle.held_registers.specs.Held.{held_at}
+use Rattle.block_cache_gen.specs.Prelude.{label_by, is_public}
+use Rattle.held_registers.specs.Prelude.{held_at}
 use Rattle.block_cache_gen.proofs.BaseMask.{mask-begins, mask-more}
-use Rattle.block_cache_gen.proofs.prepared.mask_of_held.Goals as goal
 use Rattle.block_cache_gen.proofs.prepared.mask_of_held.Goals.{then-is_public, else-is_public}
+use Rattle.block_cache_gen.proofs.prepared.mask_of_held.Goals as goal
 
 pub loop-register-init : goal.loop-register-init
 loop-register-init c = mask-begins c.args.decls.now c.args.held.now

@@ -1,5 +1,5 @@
 use Rattle.std.proofs.Common.{◌≡◌}
-use Rattle.block_cache_gen.specs.Notes.{mask_to}
+use Rattle.block_cache_gen.specs.Prelude.{mask_to}
 use Rattle.block_cache_gen.proofs.prepared.mask_of_held.Given as goal
 
 abbrev pub invariant-loop-register : goal.invariant-loop-register

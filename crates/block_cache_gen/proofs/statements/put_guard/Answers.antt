@@ -1,6 +1,5 @@
 use Rattle.std.proofs.Common.{None}
-use Rattle.src_tree.specs.Limits.{tree_weight}
-use Rattle.src_tree.specs.Trees.{expr_tree}
+use Rattle.src_tree.specs.Prelude.{tree_weight, expr_tree}
 use Rattle.block_cache_gen.proofs.EmittedTrees.{room_for_right}
 use Rattle.block_cache_gen.proofs.statements.put_guard.Goals as goal
 

@@ -1,8 +1,7 @@
 use Rattle.std.proofs.Common.{ap, ◌∙◌}
-use Rattle.block_cache_gen.specs.Notes.{operand_mask}
+use Rattle.block_cache_gen.specs.Prelude.{operand_mask, home_in}
 use Rattle.std.proofs.lemmas.Result.{on_ok_weaker}
-use Rattle.src_tree.specs.Trees.{expr_tree}
-use Rattle.block_cache_gen.specs.Variables.{home_in}
+use Rattle.src_tree.specs.Prelude.{expr_tree}
 use Rattle.block_cache_gen.proofs.EmittedStatements.{element_set, room_for_access, with_base}
 use Rattle.block_cache_gen.proofs.Emitting.{grows_then}
 use Rattle.block_cache_gen.proofs.statements.put_set_element.Goals as goal

@@ -1,6 +1,6 @@
 use Rattle.std.proofs.Common.{refl, arith}
 use Rattle.std.proofs.lemmas.Result.{on_ok_weaker}
-use Rattle.src_tree.specs.Trees.{expr_tree, Operation}
+use Rattle.src_tree.specs.Prelude.{expr_tree, Operation}
 use Rattle.block_cache_gen.proofs.EmittedStatements.{straight_emitted}
 use Rattle.block_cache_gen.proofs.EmittedTrees.{room_behind_left}
 use Rattle.block_cache_gen.proofs.statements.put_straight.Goals as goal

@@ -1,6 +1,6 @@
 use Rattle.std.proofs.Common.{◌≡◌, ◌+◌, ◌-◌, get_or, arith}
-use Rattle.gr_base.specs.NameMaps.{found_under}
-use Rattle.scratch_alloc.specs.Plans.{no_place}
+use Rattle.gr_base.specs.Prelude.{found_under}
+use Rattle.scratch_alloc.specs.Prelude.{no_place}
 use Rattle.block_cache_gen.proofs.KnownNames.{one_more}
 use Rattle.block_cache_gen.proofs.variables.gather.Goals as goal
 

@@ -1,6 +1,6 @@
 use Rattle.std.proofs.Common.{◌≡◌, ℕ, ◌≤◌, List, length, drop}
-use Rattle.gr_base.specs.NameMaps.{found_under}
-use Rattle.block_cache_gen.specs.Variables.{variable_of}
+use Rattle.gr_base.specs.Prelude.{found_under}
+use Rattle.block_cache_gen.specs.Prelude.{variable_of}
 use Rattle.block_cache_gen.proofs.variables.gather.Given as goal
 
 abbrev pub invariant-loop-left : goal.invariant-loop-left

@@ -1,5 +1,5 @@
 use Rattle.std.proofs.Common.{◌≡◌, drop}
-use Rattle.block_cache_gen.specs.Settings.{slot_from}
+use Rattle.block_cache_gen.specs.Prelude.{slot_from}
 use Rattle.block_cache_gen.proofs.variables.slot_from.Given as goal
 
 abbrev pub invariant-loop-slot : goal.invariant-loop-slot

@@ -1,6 +1,6 @@
 use Rattle.std.proofs.Common.{◌∙◌, length}
 use Rattle.std.proofs.lemmas.Result.{on_ok_weaker}
-use Rattle.src_tree.specs.Trees.{statement_of}
+use Rattle.src_tree.specs.Prelude.{statement_of}
 use Rattle.block_cache_gen.proofs.FrameCalls.{on_ok_both}
 use Rattle.branch_padding.proofs.FrameBranches.{frame-branch_means, call_few, call_choice, call_typed, call_low, call_room, call_promises, call_extends}
 use Rattle.branch_padding.proofs.calls.emit_secret_if.Goals as goal

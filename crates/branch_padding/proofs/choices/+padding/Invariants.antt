@@ -1,12 +1,8 @@
 use Rattle.std.proofs.Common.{◌+◌, ◌*◌, ◌≤◌}
+use Rattle.src_tree.specs.Prelude.{context_of, block_weight, statement_weight, block_of_all, statement_of}
+use Rattle.block_cache_gen.specs.Prelude.{Appended, no_notes}
+use Rattle.branch_padding.specs.Prelude.{both_weights, padded_codes, HaveWords, row_between}
 use Rattle.gr_word.specs.declared.variables.Label.TheVariants as label
-use Rattle.src_tree.specs.Contexts.{context_of}
-use Rattle.src_tree.specs.Limits.{block_weight, statement_weight}
-use Rattle.src_tree.specs.Trees.{block_of_all, statement_of}
-use Rattle.block_cache_gen.specs.Emitted.{Appended, no_notes}
-use Rattle.branch_padding.specs.EmittedBranches.{both_weights}
-use Rattle.branch_padding.specs.Padded.{padded_codes}
-use Rattle.branch_padding.specs.Rows.{HaveWords, row_between}
 use Rattle.branch_padding.proofs.choices.+padding.Given as goal
 
 abbrev pub decreases-put_padded : goal.decreases-put_padded

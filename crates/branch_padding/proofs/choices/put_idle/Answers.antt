@@ -1,6 +1,6 @@
 use Rattle.std.proofs.Common.{◌≡◌, subst, arith}
-use Rattle.block_cache_gen.specs.Emitted.{Appended, no_notes}
-use Rattle.branch_padding.specs.Padded.{idle}
+use Rattle.block_cache_gen.specs.Prelude.{Appended, no_notes}
+use Rattle.branch_padding.specs.Prelude.{idle}
 use Rattle.branch_padding.proofs.EmittedRegions.{idle-more, appended-none}
 use Rattle.branch_padding.proofs.GrowingRows.{appended-grows}
 use Rattle.branch_padding.proofs.choices.put_idle.Goals as goal

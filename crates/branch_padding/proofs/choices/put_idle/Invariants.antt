@@ -1,6 +1,6 @@
 use Rattle.std.proofs.Common.{◌-◌, ◌≤◌}
-use Rattle.block_cache_gen.specs.Emitted.{Appended, no_notes}
-use Rattle.branch_padding.specs.Padded.{idle}
+use Rattle.block_cache_gen.specs.Prelude.{Appended, no_notes}
+use Rattle.branch_padding.specs.Prelude.{idle}
 use Rattle.branch_padding.proofs.choices.put_idle.Given as goal
 
 abbrev pub invariant-loop-done : goal.invariant-loop-done

@@ -1,6 +1,6 @@
 use Rattle.std.proofs.Common.{◌≤◌, arith}
 use Rattle.std.proofs.lemmas.Result.{on_ok_weaker}
-use Rattle.src_tree.specs.Trees.{block_of_all, test_of}
+use Rattle.src_tree.specs.Prelude.{block_of_all, test_of}
 use Rattle.block_cache_gen.specs.declared.frames.Mode.TheVariants.{Public}
 use Rattle.branch_padding.proofs.EmittedRegions.{secret-short}
 use Rattle.branch_padding.proofs.choices.put_secret_if.Goals as goal

@@ -1,10 +1,7 @@
 use Rattle.std.proofs.Common.{rules, ◌-◌, ◌<◌, ◌≤◌, length, sym, subst, arith}
-use Rattle.gr_word.specs.declared.variables.Label.TheVariants as label
-use Rattle.src_tree.specs.Contexts.{context_of}
-use Rattle.src_tree.specs.Limits.{LowStatement, block_weight, statement_weight}
-use Rattle.src_tree.specs.Trees.{block_of_all, statement_of}
-use Rattle.src_tree.specs.Typing.{TypedStatement}
+use Rattle.src_tree.specs.Prelude.{context_of, LowStatement, block_weight, statement_weight, block_of_all, statement_of, TypedStatement}
 use Rattle.branch_padding.proofs.EmittedRegions.{low-at, typed-at, weight-at}
+use Rattle.gr_word.specs.declared.variables.Label.TheVariants as label
 use Rattle.branch_padding.proofs.cycles.+cycles.Goals as goal
 
 pub block_cycles-statement_cycles-requires : goal.block_cycles-statement_cycles-requires

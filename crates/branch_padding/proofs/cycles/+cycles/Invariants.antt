@@ -1,9 +1,7 @@
 use Rattle.std.proofs.Common.{◌≡◌, ◌+◌, ◌*◌, ◌≤◌, length, drop}
+use Rattle.src_tree.specs.Prelude.{context_of, block_weight, statement_weight, block_of_all, statement_of}
+use Rattle.branch_padding.specs.Prelude.{cycles_of_all}
 use Rattle.gr_word.specs.declared.variables.Label.TheVariants as label
-use Rattle.src_tree.specs.Contexts.{context_of}
-use Rattle.src_tree.specs.Limits.{block_weight, statement_weight}
-use Rattle.src_tree.specs.Trees.{block_of_all, statement_of}
-use Rattle.branch_padding.specs.Cycles.{cycles_of_all}
 use Rattle.branch_padding.proofs.cycles.+cycles.Given as goal
 
 abbrev pub decreases-statement_cycles : goal.decreases-statement_cycles

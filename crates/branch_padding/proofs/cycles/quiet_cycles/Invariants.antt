@@ -1,5 +1,5 @@
 use Rattle.std.proofs.Common.{◌≡◌, ◌≤◌, length, drop}
-use Rattle.branch_padding.specs.Cycles.{quiet_cycles}
+use Rattle.branch_padding.specs.Prelude.{quiet_cycles}
 use Rattle.branch_padding.proofs.cycles.quiet_cycles.Given as goal
 
 abbrev pub invariant-loop-from : goal.invariant-loop-from

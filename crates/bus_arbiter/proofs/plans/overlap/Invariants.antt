@@ -1,5 +1,5 @@
 use Rattle.std.proofs.Common.{◌≡◌, drop}
-use Rattle.bus_arbiter.specs.Refusals.{of_overlap}
+use Rattle.bus_arbiter.specs.Prelude.{of_overlap}
 use Rattle.bus_arbiter.proofs.plans.overlap.Given as goal
 
 abbrev pub invariant-loop-core : goal.invariant-loop-core

@@ -1,6 +1,6 @@
 use Rattle.std.proofs.Common.{◌<◌, ◌+◌, max, map, drop, sym, ap, ◌∙◌, subst, length, get_or, arith}
 use Rattle.std.specs.Prelude.{fold}
-use Rattle.lt_isa.specs.Object.{no_bank}
+use Rattle.lt_isa.specs.Prelude.{no_bank}
 use Rattle.lt_isa.proofs.Cycles.{bank-fits}
 use Rattle.bus_arbiter.proofs.Longest.{longest-more}
 use Rattle.bus_arbiter.proofs.shares.longest.Goals as goal

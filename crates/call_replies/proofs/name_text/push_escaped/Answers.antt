@@ -3,7 +3,7 @@ use Rattle.std.specs.Prelude.{if◌then◌else◌}
 use Rattle.std.proofs.lemmas.Bool.{lt-leb}
 use Rattle.std.proofs.lemmas.List.{append_assoc}
 use Rattle.std.proofs.lemmas.Result.{on_ok_weaker}
-use Rattle.call_replies.specs.NameText.{escaped_unit}
+use Rattle.call_replies.specs.Prelude.{escaped_unit}
 use Rattle.call_replies.proofs.name_text.push_escaped.Goals as goal
 
 pub returns : goal.returns

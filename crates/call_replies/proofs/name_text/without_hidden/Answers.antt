@@ -1,7 +1,7 @@
 use Rattle.std.proofs.Common.{flat_map, sym, ap, ◌∙◌, map-id}
 use Rattle.std.proofs.lemmas.Iterator.{YieldsList-from_chars}
 use Rattle.std.proofs.lemmas.Iterator.Consumers.{YieldsList-end}
-use Rattle.call_replies.specs.NameText.{shown_char}
+use Rattle.call_replies.specs.Prelude.{shown_char}
 use Rattle.call_replies.proofs.name_text.without_hidden.Goals as goal
 
 pub returns : goal.returns

@@ -1,5 +1,5 @@
 use Rattle.std.proofs.Common.{◌≡◌, flat_map, string_bytes}
-use Rattle.call_replies.specs.NameText.{shown_char}
+use Rattle.call_replies.specs.Prelude.{shown_char}
 use Rattle.call_replies.proofs.name_text.without_hidden.Given as goal
 
 abbrev pub invariant-loop-letter : goal.invariant-loop-letter

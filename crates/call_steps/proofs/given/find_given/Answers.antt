@@ -1,5 +1,5 @@
 use Rattle.std.proofs.lemmas.Result.{err_from_is_err_and}
-use Rattle.call_steps.specs.Steps.{with_inputs}
+use Rattle.call_steps.specs.Prelude.{with_inputs}
 use Rattle.call_steps.proofs.Reaching.{then-reached, then-stopped}
 use Rattle.call_steps.proofs.given.find_given.Goals as goal
 

@@ -1,6 +1,6 @@
 use Rattle.std.proofs.Common.{rules, ◌≡◌, ◌-◌, map, ap, ◌∙◌, length}
 use Rattle.std.specs.List.{range_with_len}
-use Rattle.lt_isa.specs.Start.{start_bank}
+use Rattle.lt_isa.specs.Prelude.{start_bank}
 use Rattle.call_steps.proofs.Beginnings.{begin-contents, begin-widths}
 use Rattle.call_steps.proofs.oblivious.load_seeded.Goals as goal
 

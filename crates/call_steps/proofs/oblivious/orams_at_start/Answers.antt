@@ -1,5 +1,5 @@
 use Rattle.std.proofs.Common.{◌≡◌, ◌+◌, [], ◌∷◌, ℕ, length, ap, sym, subst, arith, length-append}
-use Rattle.call_steps.specs.Beginning.{BeginFrom}
+use Rattle.call_steps.specs.Prelude.{BeginFrom}
 use Rattle.call_steps.proofs.Beginnings.{begin-more}
 use Rattle.call_steps.proofs.oblivious.orams_at_start.Goals as goal
 

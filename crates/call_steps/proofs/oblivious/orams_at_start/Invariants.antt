@@ -1,5 +1,5 @@
 use Rattle.std.proofs.Common.{◌≡◌, ◌-◌, length}
-use Rattle.call_steps.specs.Beginning.{BeginFrom}
+use Rattle.call_steps.specs.Prelude.{BeginFrom}
 use Rattle.call_steps.proofs.oblivious.orams_at_start.Given as goal
 
 abbrev pub invariant-loop-bank : goal.invariant-loop-bank

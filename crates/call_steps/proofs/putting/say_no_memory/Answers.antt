@@ -1,5 +1,5 @@
 use Rattle.std.proofs.Common.{List, ℕ, subst}
-use Rattle.call_steps.specs.Outside.{PutsSaid}
+use Rattle.call_steps.specs.Prelude.{PutsSaid}
 use Rattle.call_steps.proofs.putting.say_no_memory.Goals as goal
 
 pub returns : goal.returns

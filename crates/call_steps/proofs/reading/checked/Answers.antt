@@ -1,6 +1,6 @@
 use Rattle.std.proofs.Common.{inr, Some, refl, subst}
 use Rattle.lt_checker.specs.declared.checks.CheckError.{CheckError}
-use Rattle.lt_checker.specs.Answers.{IsRefusalOf}
+use Rattle.lt_checker.specs.Prelude.{IsRefusalOf}
 use Rattle.call_replies.specs.declared.replies.Verdict.TheVariants.{Refused}
 use Rattle.call_steps.proofs.reading.checked.Goals as goal
 

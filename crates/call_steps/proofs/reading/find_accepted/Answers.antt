@@ -1,7 +1,5 @@
 use Rattle.std.proofs.lemmas.Result.{IfErr-weaker, err_from_is_err_and}
-use Rattle.call_steps.specs.Work.{Asks}
-use Rattle.call_steps.specs.Steps.{on_judged}
-use Rattle.call_steps.specs.Questions.{WhetherAccepted}
+use Rattle.call_steps.specs.Prelude.{Asks, on_judged, WhetherAccepted}
 use Rattle.call_steps.proofs.Finding.{accepted-found, accepted-refused}
 use Rattle.call_steps.proofs.reading.find_accepted.Goals as goal
 

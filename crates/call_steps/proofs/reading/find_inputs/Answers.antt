@@ -1,10 +1,9 @@
 use Rattle.std.proofs.Common.{IfErr, IfOk, List, refl, ap, ◌∙◌, subst}
 use Rattle.std.proofs.lemmas.Result.{err_from_is_err_and}
 use Rattle.gr_word.specs.declared.variables.Want.{Want}
-use Rattle.lt_isa.specs.Start.{wants_of}
-use Rattle.call_replies.specs.Texts.{said}
-use Rattle.call_steps.specs.Reached.{Finds, FindsNone, stage}
-use Rattle.call_steps.specs.Steps.{with_variables}
+use Rattle.lt_isa.specs.Prelude.{wants_of}
+use Rattle.call_replies.specs.Prelude.{said}
+use Rattle.call_steps.specs.Prelude.{Finds, FindsNone, stage, with_variables}
 use Rattle.call_steps.proofs.Reaching.{not-begun, out-of-memory}
 use Rattle.call_steps.proofs.reading.find_inputs.Goals as goal
 

@@ -1,9 +1,7 @@
 use Rattle.std.proofs.Common.{Ok}
 use Rattle.std.proofs.lemmas.Result.{IfErr-weaker, IfOk-weaker, err_from_is_err_and}
-use Rattle.call_steps.specs.Work.{Asks}
+use Rattle.call_steps.specs.Prelude.{Asks, or_ends, WhichInputs}
 use Rattle.call_replies.specs.declared.replies.Verdict.TheVariants.{BadInput}
-use Rattle.call_steps.specs.Steps.{or_ends}
-use Rattle.call_steps.specs.Questions.{WhichInputs}
 use Rattle.call_steps.proofs.Finding.{bytes-found, bytes-refused}
 use Rattle.call_steps.proofs.reading.find_variables.Goals as goal
 

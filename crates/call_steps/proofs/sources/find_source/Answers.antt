@@ -1,10 +1,8 @@
 use Rattle.std.proofs.Common.{Ok}
 use Rattle.std.proofs.lemmas.Result.{IfErr-weaker, IfOk-weaker, err_from_is_err_and}
-use Rattle.src_tree.specs.Trees.{source_of}
-use Rattle.call_steps.specs.Work.{Asks}
+use Rattle.src_tree.specs.Prelude.{source_of}
+use Rattle.call_steps.specs.Prelude.{Asks, or_ends, WhichSource}
 use Rattle.call_replies.specs.declared.replies.Verdict.TheVariants.{BadSource}
-use Rattle.call_steps.specs.Steps.{or_ends}
-use Rattle.call_steps.specs.Questions.{WhichSource}
 use Rattle.call_steps.proofs.Finding.{bytes-found, bytes-refused}
 use Rattle.call_steps.proofs.sources.find_source.Goals as goal
 

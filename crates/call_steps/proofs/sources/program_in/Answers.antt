@@ -1,6 +1,6 @@
 use Rattle.std.proofs.Common.{Bool, IfOk, IfErr, IfSome, sym, subst}
-use Rattle.src_tree.specs.Trees.{source_of}
-use Rattle.call_steps.specs.Sources.{IsFirstSourceFault, Spells}
+use Rattle.src_tree.specs.Prelude.{source_of}
+use Rattle.call_steps.specs.Prelude.{IsFirstSourceFault, Spells}
 use Rattle.call_steps.proofs.sources.program_in.Goals as goal
 
 pub returns-then-procs-clause-found : goal.returns-then-procs-clause-found

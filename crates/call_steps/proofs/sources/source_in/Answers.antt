@@ -1,7 +1,7 @@
 use Rattle.std.proofs.Common.{sym, subst}
-use Rattle.src_tree.specs.Trees.{source_of}
+use Rattle.src_tree.specs.Prelude.{source_of}
 use Rattle.src_tree.specs.declared.trees.Program.{Program}
-use Rattle.call_steps.specs.Sources.{SpellsTyped}
+use Rattle.call_steps.specs.Prelude.{SpellsTyped}
 use Rattle.call_steps.proofs.Saying.{no-source, program-first}
 use Rattle.call_steps.proofs.sources.source_in.Goals as goal
 

@@ -1,4 +1,4 @@
-use Rattle.call_steps.specs.CallsFollow.{NoCalls}
+use Rattle.call_steps.specs.Prelude.{NoCalls}
 use Rattle.call_steps.proofs.Answering.{asked-is}
 use Rattle.call_steps.proofs.CallsMade.{work-made}
 use Rattle.call_steps.proofs.verbs.answer.Goals as goal

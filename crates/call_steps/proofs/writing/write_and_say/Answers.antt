@@ -1,5 +1,5 @@
 use Rattle.std.proofs.Common.{List, ℕ, ap, subst, Err, ◌∙◌}
-use Rattle.call_steps.specs.Outside.{PutsSaid, Written, NotWritten, Starved}
+use Rattle.call_steps.specs.Prelude.{PutsSaid, Written, NotWritten, Starved}
 use Rattle.call_steps.proofs.writing.write_and_say.Goals as goal
 
 pub returns-in-Ok-clause-left : goal.returns-in-Ok-clause-left

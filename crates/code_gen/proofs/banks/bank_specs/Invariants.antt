@@ -1,5 +1,5 @@
 use Rattle.std.proofs.Common.{◌≡◌, ◌++◌, drop}
-use Rattle.code_gen.specs.Made.{banks_from}
+use Rattle.code_gen.specs.Prelude.{banks_from}
 use Rattle.code_gen.proofs.banks.bank_specs.Given as goal
 
 abbrev pub invariant-loop-bank : goal.invariant-loop-bank

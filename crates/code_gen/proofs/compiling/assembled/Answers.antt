@@ -1,12 +1,12 @@
 use Rattle.std.proofs.Common.{refl, sym, subst, ap, ◌∙◌}
-use Rattle.lt_isa.specs.Object.{Parts}
-use Rattle.src_tree.specs.Trees.{source_of}
+use Rattle.lt_isa.specs.Prelude.{Parts}
+use Rattle.src_tree.specs.Prelude.{source_of}
 use Rattle.scratch_alloc.proofs.PlanPlaces.{plan_places}
-use Rattle.block_cache_gen.specs.Settings.{plan_of}
-use Rattle.code_gen.specs.Made.{banks_from, IsMadeOf}
+use Rattle.block_cache_gen.specs.Prelude.{plan_of}
+use Rattle.code_gen.specs.Prelude.{banks_from, IsMadeOf}
 use Rattle.code_gen.proofs.Assembled.{frame-made}
-use Rattle.code_gen.proofs.compiling.assembled.Goals as goal
 use Rattle.code_gen.proofs.compiling.assembled.Goals.{In_ok-banks}
+use Rattle.code_gen.proofs.compiling.assembled.Goals as goal
 
 -- the object that is assembled from its parts
 abbrev object_of : In_ok-banks → Parts

@@ -1,9 +1,7 @@
 use Rattle.std.proofs.Common.{◌<◌, false, [], rules, sym, subst, arith}
 use Rattle.held_registers.proofs.Sound.{nothing-sound}
-use Rattle.src_tree.specs.Limits.{IsWithinLimits}
-use Rattle.src_tree.specs.Trees.{source_of}
-use Rattle.src_tree.specs.Typing.{IsTyped}
-use Rattle.scratch_alloc.specs.Plans.{standard_plan}
+use Rattle.src_tree.specs.Prelude.{IsWithinLimits, source_of, IsTyped}
+use Rattle.scratch_alloc.specs.Prelude.{standard_plan}
 use Rattle.scratch_alloc.proofs.StandardPlan.{standard_sound_at}
 use Rattle.code_gen.proofs.Assembled.{CompilePromises, made-promises}
 use Rattle.code_gen.proofs.compiling.compile.Goals as goal

@@ -1,14 +1,10 @@
 use Rattle.std.proofs.Common.{◌+◌, ◌*◌, ◌≤◌, true, length, rules, sym, subst, arith}
-use Rattle.src_tree.specs.Limits.{IsWithinLimits}
-use Rattle.src_tree.specs.Trees.{source_of}
-use Rattle.src_tree.specs.Typing.{IsTyped}
-use Rattle.scratch_alloc.specs.Plans.{IsSoundPlan}
-use Rattle.source_folding.specs.Folded.{folded_source}
-use Rattle.source_folding.specs.Numbers.{BlockNumbersFit}
+use Rattle.src_tree.specs.Prelude.{IsWithinLimits, source_of, IsTyped}
+use Rattle.scratch_alloc.specs.Prelude.{IsSoundPlan}
+use Rattle.source_folding.specs.Prelude.{folded_source, BlockNumbersFit}
 use Rattle.source_folding.proofs.FoldedPrograms.{folded-source_typed, folded-within}
-use Rattle.compiled_objects.specs.FastLayout.{fast_plan}
-use Rattle.compiled_objects.specs.HeldNumbers.{held_for}
-use Rattle.code_gen.specs.Made.{IsMadeOf}
+use Rattle.compiled_objects.specs.Prelude.{fast_plan, held_for}
+use Rattle.code_gen.specs.Prelude.{IsMadeOf}
 use Rattle.code_gen.proofs.Assembled.{CompilePromises, made-promises}
 use Rattle.compiled_objects.proofs.FastPlans.{fast-sound, fast-secret_slot}
 use Rattle.code_gen.proofs.HeldNumbers.{held_for-sound, places-fit}

@@ -1,6 +1,6 @@
 use Rattle.std.proofs.Common.{subst, sym}
-use Rattle.src_tree.specs.Trees.{source_of}
-use Rattle.scratch_alloc.specs.Plans.{IsSoundPlan}
+use Rattle.src_tree.specs.Prelude.{source_of}
+use Rattle.scratch_alloc.specs.Prelude.{IsSoundPlan}
 use Rattle.scratch_alloc.proofs.StandardPlan.{standard_sound_at}
 use Rattle.code_gen.proofs.Assembled.{plan-standard}
 use Rattle.code_gen.proofs.compiling.compiled.Goals as goal

@@ -1,14 +1,12 @@
 use Rattle.std.proofs.Common.{sym, subst, ap, ◌∙◌}
 use Rattle.std.specs.Prelude.{OnOk, Result, Ok, Err}
-use Rattle.held_registers.specs.Held.{IsSoundHeld}
-use Rattle.src_tree.specs.Limits.{IsWithinLimits}
-use Rattle.src_tree.specs.Typing.{IsTyped}
-use Rattle.src_tree.specs.Trees.{source_of}
-use Rattle.scratch_alloc.specs.Plans.{IsSoundPlan, plan_from}
+use Rattle.held_registers.specs.Prelude.{IsSoundHeld}
+use Rattle.src_tree.specs.Prelude.{IsWithinLimits, IsTyped, source_of}
+use Rattle.scratch_alloc.specs.Prelude.{IsSoundPlan, plan_from}
 use Rattle.source_folding.proofs.FoldedPrograms.{folded-source_typed, folded-within}
-use Rattle.block_cache_gen.specs.ProgramWords.{BlockHasWords}
+use Rattle.block_cache_gen.specs.Prelude.{BlockHasWords}
 use Rattle.code_gen.proofs.FoldedPlans.{folded-sound}
-use Rattle.compiled_objects.specs.HeldNumbers.{held_for}
+use Rattle.compiled_objects.specs.Prelude.{held_for}
 use Rattle.code_gen.proofs.HeldNumbers.{held_for-sound, places-fit}
 use Rattle.code_gen.proofs.compiling.planned_folded.Goals as goal
 

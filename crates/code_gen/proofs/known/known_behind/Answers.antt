@@ -1,5 +1,5 @@
 use Rattle.std.proofs.Common.{length, sym, ap, ◌∙◌, eqb-true}
-use Rattle.src_tree.specs.Trees.{block_of_all}
+use Rattle.src_tree.specs.Prelude.{block_of_all}
 use Rattle.code_gen.proofs.AtStart.{forgotten-empty}
 use Rattle.code_gen.proofs.known.known_behind.Goals as goal
 

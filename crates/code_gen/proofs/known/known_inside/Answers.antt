@@ -1,5 +1,5 @@
 use Rattle.std.proofs.Common.{length, sym, ap, ◌∙◌, eqb-true}
-use Rattle.src_tree.specs.Trees.{block_of_all, test_of}
+use Rattle.src_tree.specs.Prelude.{block_of_all, test_of}
 use Rattle.code_gen.proofs.AtStart.{inside-empty}
 use Rattle.code_gen.proofs.known.known_inside.Goals as goal
 

@@ -1,5 +1,5 @@
 use Rattle.std.proofs.Common.{length, sym, ap, ◌∙◌, eqb-true}
-use Rattle.src_tree.specs.Trees.{statement_of}
+use Rattle.src_tree.specs.Prelude.{statement_of}
 use Rattle.code_gen.proofs.AtStart.{after-empty}
 use Rattle.code_gen.proofs.known.learn.Goals as goal
 

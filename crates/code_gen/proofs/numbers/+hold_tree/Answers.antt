@@ -1,9 +1,9 @@
 use Rattle.std.proofs.Common.{◌≡◌, sym, ap, ◌∙◌, rules, w64, to_z, of_z}
 use Rattle.std.proofs.lemmas.Int.{wraps}
 use Rattle.std.proofs.lemmas.Result.{on_ok_weaker}
-use Rattle.src_tree.specs.Trees.{expr_tree}
-use Rattle.held_registers.specs.Held.{with_number}
-use Rattle.compiled_objects.specs.HeldNumbers.{with_tree}
+use Rattle.src_tree.specs.Prelude.{expr_tree}
+use Rattle.held_registers.specs.Prelude.{with_number}
+use Rattle.compiled_objects.specs.Prelude.{with_tree}
 use Rattle.code_gen.proofs.numbers.+hold_tree.Goals as goal
 
 pub returns-in-Num-clause-held : goal.returns-in-Num-clause-held

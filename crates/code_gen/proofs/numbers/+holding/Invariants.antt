@@ -1,7 +1,7 @@
 use Rattle.std.proofs.Common.{◌≡◌, ◌≤◌, drop, length}
-use Rattle.src_tree.specs.Trees.{block_of_all}
-use Rattle.block_cache_gen.specs.ProgramWords.{BlockHasWords}
-use Rattle.compiled_objects.specs.HeldNumbers.{with_block}
+use Rattle.src_tree.specs.Prelude.{block_of_all}
+use Rattle.block_cache_gen.specs.Prelude.{BlockHasWords}
+use Rattle.compiled_objects.specs.Prelude.{with_block}
 use Rattle.code_gen.proofs.numbers.+holding.Given as goal
 
 abbrev pub invariant-hold_block-loop-statement : goal.invariant-hold_block-loop-statement

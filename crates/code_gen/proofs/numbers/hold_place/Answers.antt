@@ -3,8 +3,8 @@ use Rattle.std.specs.Prelude.{if◌then◌else◌}
 use Rattle.std.proofs.lemmas.Bool.{ne_eqb}
 use Rattle.std.proofs.lemmas.Int.{wraps}
 use Rattle.std.proofs.lemmas.Result.{on_ok_weaker}
-use Rattle.held_registers.specs.Held.{with_number}
-use Rattle.compiled_objects.specs.HeldNumbers.{reducer_at}
+use Rattle.held_registers.specs.Prelude.{with_number}
+use Rattle.compiled_objects.specs.Prelude.{reducer_at}
 use Rattle.code_gen.proofs.numbers.hold_place.Goals as goal
 
 pub returns-clause-held : goal.returns-clause-held

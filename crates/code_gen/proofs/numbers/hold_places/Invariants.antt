@@ -1,5 +1,5 @@
 use Rattle.std.proofs.Common.{◌≡◌, ◌≤◌, drop, length}
-use Rattle.compiled_objects.specs.HeldNumbers.{with_places}
+use Rattle.compiled_objects.specs.Prelude.{with_places}
 use Rattle.code_gen.proofs.numbers.hold_places.Given as goal
 
 abbrev pub invariant-loop-place : goal.invariant-loop-place

@@ -1,12 +1,9 @@
 use Rattle.std.proofs.Common.{length, ap, arith}
 use Rattle.gr_word.specs.declared.variables.Label.TheVariants.{Public}
-use Rattle.src_tree.specs.Contexts.{context_of}
-use Rattle.src_tree.specs.Limits.{block_weight}
-use Rattle.src_tree.specs.Trees.{block_of_all}
-use Rattle.block_cache_gen.specs.Emitted.{no_notes}
+use Rattle.src_tree.specs.Prelude.{context_of, block_weight, block_of_all}
+use Rattle.block_cache_gen.specs.Prelude.{no_notes, Setting}
 use Rattle.block_cache_gen.proofs.Emitting.{appended_length}
-use Rattle.block_cache_gen.specs.Homes.{Setting}
-use Rattle.code_gen.specs.Programs.{beginning}
+use Rattle.code_gen.specs.Prelude.{beginning}
 use Rattle.code_gen.proofs.RangesOfPrograms.{beginning_short}
 use Rattle.code_gen.proofs.programs.program_code.Goals as goal
 

@@ -1,7 +1,7 @@
 use Rattle.std.proofs.Common.{◌≡◌, ◌∙◌, rules, w64, to_z, of_z}
 use Rattle.std.proofs.lemmas.Int.{wraps}
 use Rattle.std.proofs.lemmas.Result.{on_ok_weaker}
-use Rattle.block_cache_gen.specs.Settings.{setting_of}
+use Rattle.block_cache_gen.specs.Prelude.{setting_of}
 use Rattle.code_gen.proofs.EmittedPrograms.{scalar-placed, scalar-accessed}
 use Rattle.code_gen.proofs.programs.put_register.Goals as goal
 

@@ -1,6 +1,6 @@
 use Rattle.held_registers.specs.declared.registers.Held.TheVariants.{SecretZero}
-use Rattle.block_cache_gen.specs.Settings.{setting_of}
-use Rattle.code_gen.specs.Programs.{register_code}
+use Rattle.block_cache_gen.specs.Prelude.{setting_of}
+use Rattle.code_gen.specs.Prelude.{register_code}
 use Rattle.code_gen.proofs.EmittedPrograms.{held-more, held-past, held-declared}
 use Rattle.code_gen.proofs.programs.put_registers.Goals as goal
 

@@ -1,6 +1,6 @@
 use Rattle.block_cache_gen.specs.declared.frames.CodeBuf.{CodeBuf}
-use Rattle.block_cache_gen.specs.Settings.{setting_of}
-use Rattle.code_gen.specs.Programs.{register_code}
+use Rattle.block_cache_gen.specs.Prelude.{setting_of}
+use Rattle.code_gen.specs.Prelude.{register_code}
 use Rattle.code_gen.proofs.EmittedPrograms.{HeldAppended}
 use Rattle.code_gen.proofs.programs.put_registers.Given as goal
 

@@ -1,5 +1,5 @@
 use Rattle.std.proofs.Common.{None}
-use Rattle.code_gen.specs.Programs.{slot_code}
+use Rattle.code_gen.specs.Prelude.{slot_code}
 use Rattle.code_gen.proofs.EmittedPrograms.{slots-more, slots-past}
 use Rattle.code_gen.proofs.programs.put_slots.Goals as goal
 

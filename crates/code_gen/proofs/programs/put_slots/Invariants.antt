@@ -1,5 +1,5 @@
 use Rattle.block_cache_gen.specs.declared.frames.CodeBuf.{CodeBuf}
-use Rattle.code_gen.specs.Programs.{slot_code}
+use Rattle.code_gen.specs.Prelude.{slot_code}
 use Rattle.code_gen.proofs.EmittedPrograms.{SlotsAppended}
 use Rattle.code_gen.proofs.programs.put_slots.Given as goal
 

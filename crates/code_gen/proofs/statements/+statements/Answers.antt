@@ -1,24 +1,17 @@
 use Rattle.std.proofs.Common.{◌≡◌, ℕ, ◌+◌, ◌*◌, ◌<◌, ◌≤◌, true, length, drop, sym, ap, ◌∙◌, subst, eqb-true, arith}
 use Rattle.std.proofs.lemmas.Result.{on_ok_weaker}
 use Rattle.gr_word.specs.declared.variables.Label.TheVariants.{Public}
-use Rattle.src_tree.specs.Contexts.{context_of}
-use Rattle.src_tree.specs.Limits.{LowBlock, block_weight, statement_weight}
-use Rattle.src_tree.specs.Trees.{block_of_all, statement_of, test_of, Nothing}
-use Rattle.src_tree.specs.Typing.{TypedBlock}
-use Rattle.block_cache_gen.specs.Emitted.{no_notes}
-use Rattle.block_cache_gen.specs.Homes.{Setting, ranged}
-use Rattle.block_cache_gen.specs.ProgramWords.{BlockHasWords}
+use Rattle.src_tree.specs.Prelude.{context_of, LowBlock, block_weight, statement_weight, block_of_all, statement_of, test_of, Nothing, TypedBlock}
+use Rattle.block_cache_gen.specs.Prelude.{no_notes, Setting, ranged, BlockHasWords}
 use Rattle.block_cache_gen.proofs.Emitting.{appended_length}
-use Rattle.branch_padding.specs.EmittedBranches.{choice_of}
-use Rattle.code_gen.specs.Emitted.{ClosesChoice, ClosesLoop, EmitsBlock, EmitsStatement, noted_behind}
-use Rattle.code_gen.specs.Statements.{block_ends_noted, ends_noted}
-use Rattle.branch_padding.specs.AfterStatements.{within_loop}
+use Rattle.branch_padding.specs.Prelude.{choice_of, within_loop}
+use Rattle.code_gen.specs.Prelude.{ClosesChoice, ClosesLoop, EmitsBlock, EmitsStatement, noted_behind, block_ends_noted, ends_noted}
 use Rattle.branch_padding.proofs.RegionLengths.{set-behind}
 use Rattle.code_gen.proofs.ChoiceLengths.{Leaves, behind-branch, behind-first, behind-head}
 use Rattle.code_gen.proofs.EmittedParts.{guard-length, guard_code-short, choice_weight-public, unless-short, noted_behind-none, block-none, block-then, loop-emitted, puts-closed}
 use Rattle.code_gen.proofs.EmittedChoices.{block_code-some, block-more, block-past, block-empty, some-items, closes-any, closes-bare, closes-second, choice-emitted}
-use Rattle.code_gen.proofs.statements.+statements.Goals as goal
 use Rattle.code_gen.proofs.statements.+statements.Goals.{put_choice-In_ok-noted, put_choice-In_ok-put_head_note, put_loop-In_ok-noted}
+use Rattle.code_gen.proofs.statements.+statements.Goals as goal
 
 pub put_block-loop-statement-init : goal.put_block-loop-statement-init
 put_block-loop-statement-init t c =

@@ -1,15 +1,10 @@
 use Rattle.std.proofs.Common.{◌≡◌, ◌+◌, ◌*◌, ◌≤◌, drop, length}
 use Rattle.gr_word.specs.declared.variables.Label.TheVariants.{Public}
-use Rattle.src_tree.specs.Contexts.{context_of}
-use Rattle.src_tree.specs.Limits.{LowBlock, block_weight, statement_weight}
-use Rattle.src_tree.specs.Trees.{block_of_all, statement_of, test_of, Loop}
-use Rattle.src_tree.specs.Typing.{TypedBlock}
+use Rattle.src_tree.specs.Prelude.{context_of, LowBlock, block_weight, statement_weight, block_of_all, statement_of, test_of, Loop, TypedBlock}
 use Rattle.block_cache_gen.specs.declared.frames.CodeBuf.{CodeBuf}
-use Rattle.block_cache_gen.specs.Homes.{ranged}
-use Rattle.block_cache_gen.specs.ProgramWords.{BlockHasWords}
-use Rattle.branch_padding.specs.EmittedBranches.{choice_of}
-use Rattle.code_gen.specs.Emitted.{EmitsBlock, noted_behind}
-use Rattle.code_gen.specs.Statements.{block_ends_noted}
+use Rattle.block_cache_gen.specs.Prelude.{ranged, BlockHasWords}
+use Rattle.branch_padding.specs.Prelude.{choice_of}
+use Rattle.code_gen.specs.Prelude.{EmitsBlock, noted_behind, block_ends_noted}
 use Rattle.code_gen.proofs.statements.+statements.Given as goal
 
 abbrev pub invariant-put_block-loop-statement : goal.invariant-put_block-loop-statement

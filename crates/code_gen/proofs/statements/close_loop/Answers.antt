@@ -1,14 +1,12 @@
 use Rattle.std.proofs.Common.{◌≡◌, ◌+◌, length, subst, arith}
 use Rattle.std.proofs.lemmas.Result.{on_ok_weaker}
-use Rattle.src_tree.specs.Trees.{test_of}
-use Rattle.block_cache_gen.specs.declared.frames.Mode.TheVariants as mode
-use Rattle.block_cache_gen.specs.Codes.{guard_code}
-use Rattle.block_cache_gen.specs.Emitted.{EmitsGuard}
-use Rattle.block_cache_gen.specs.Homes.{Setting, ranged}
+use Rattle.src_tree.specs.Prelude.{test_of}
+use Rattle.block_cache_gen.specs.Prelude.{guard_code, EmitsGuard, Setting, ranged}
 use Rattle.block_cache_gen.proofs.SomeCode.{guard_code-some}
 use Rattle.code_gen.proofs.EmittedParts.{closing-length, closing-short, guard_code-short}
-use Rattle.code_gen.proofs.statements.close_loop.Goals as goal
 use Rattle.code_gen.proofs.statements.close_loop.Goals.{In_ok-put_guard}
+use Rattle.block_cache_gen.specs.declared.frames.Mode.TheVariants as mode
+use Rattle.code_gen.proofs.statements.close_loop.Goals as goal
 
 -- what the guard is made for
 abbrev at_guard : In_ok-put_guard → Setting

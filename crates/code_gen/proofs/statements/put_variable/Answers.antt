@@ -1,4 +1,4 @@
-use Rattle.src_tree.specs.Trees.{expr_tree}
+use Rattle.src_tree.specs.Prelude.{expr_tree}
 use Rattle.block_cache_gen.proofs.FrameCalls.{on_ok_both}
 use Rattle.code_gen.proofs.EmittedParts.{variable-short}
 use Rattle.code_gen.proofs.statements.put_variable.Goals as goal

@@ -1,5 +1,5 @@
 use Rattle.std.proofs.Common.{arith, sym, ◌∙◌, ap}
-use Rattle.gr_base.specs.Numerals.{are_digits}
+use Rattle.gr_base.specs.Prelude.{are_digits}
 use Rattle.command_words.proofs.Wording.{number-none}
 use Rattle.command_words.proofs.options.number_within.Goals as goal
 

@@ -1,7 +1,7 @@
 use Rattle.std.proofs.Common.{◌≡◌, true, sym, subst}
 use Rattle.std.proofs.lemmas.Result.{IfOk-weaker}
 use Rattle.clap.specs.Words.{App, is_simple, is_simple_and_free}
-use Rattle.command_words.specs.Options.{IsFound, texts}
+use Rattle.command_words.specs.Prelude.{IsFound, texts}
 use Rattle.command_words.proofs.VerbRows.{stated}
 use Rattle.command_words.proofs.verbs.matches_of.Goals as goal
 

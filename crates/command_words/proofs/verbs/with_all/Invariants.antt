@@ -1,7 +1,6 @@
 use Rattle.std.proofs.Common.{◌≡◌, drop}
 use Rattle.clap.specs.Words.{app_of}
-use Rattle.command_words.specs.Options.{texts}
-use Rattle.command_words.specs.VerbRows.{with_all}
+use Rattle.command_words.specs.Prelude.{texts, with_all}
 use Rattle.command_words.proofs.verbs.with_all.Given as goal
 
 abbrev pub invariant-adding : goal.invariant-adding

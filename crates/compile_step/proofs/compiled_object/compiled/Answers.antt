@@ -1,5 +1,5 @@
 use Rattle.std.proofs.Common.{true, false}
-use Rattle.src_tree.specs.Trees.{source_of}
+use Rattle.src_tree.specs.Prelude.{source_of}
 use Rattle.compile_step.proofs.Compiling.{compiled-for}
 use Rattle.compile_step.proofs.compiled_object.compiled.Goals as goal
 

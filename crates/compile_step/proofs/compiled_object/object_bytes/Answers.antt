@@ -1,6 +1,6 @@
 use Rattle.std.proofs.Common.{List, ℕ, sym, subst}
-use Rattle.src_tree.specs.Trees.{source_of}
-use Rattle.call_steps.specs.Compiled.{IsCompiledTo}
+use Rattle.src_tree.specs.Prelude.{source_of}
+use Rattle.call_steps.specs.Prelude.{IsCompiledTo}
 use Rattle.compile_step.proofs.compiled_object.object_bytes.Goals as goal
 
 pub returns-clause-compiled : goal.returns-clause-compiled

@@ -1,4 +1,4 @@
-use Rattle.src_tree.specs.Trees.{source_of}
+use Rattle.src_tree.specs.Prelude.{source_of}
 use Rattle.compile_step.proofs.Compiling.{room-refuses}
 use Rattle.compile_step.proofs.compiled_object.object_of.Goals as goal
 

@@ -1,9 +1,8 @@
 use Rattle.std.proofs.Common.{sym, subst, ap, ◌∙◌}
-use Rattle.src_tree.specs.Trees.{source_of}
-use Rattle.resident_alloc.specs.ResidentPlan.{resident_plan}
+use Rattle.src_tree.specs.Prelude.{source_of}
+use Rattle.resident_alloc.specs.Prelude.{resident_plan}
 use Rattle.resident_alloc.proofs.SoundPlan.{resident_sound}
-use Rattle.spread_alloc.specs.Spread.{spread_plan}
-use Rattle.spread_alloc.specs.SpreadFits.{PlanFits}
+use Rattle.spread_alloc.specs.Prelude.{spread_plan, PlanFits}
 use Rattle.spread_alloc.proofs.FitsSpread.{sound_fits}
 use Rattle.compiled_objects.proofs.FastPlans.{fast-is}
 use Rattle.compiled_objects.proofs.plans.fast_plan.Goals as goal

@@ -1,4 +1,4 @@
-use Rattle.src_tree.specs.Typing.{DeclaredOnce}
+use Rattle.src_tree.specs.Prelude.{DeclaredOnce}
 use Rattle.explain_words.proofs.ShownNames.{ShownBelow}
 use Rattle.explain_words.proofs.shown_names.shown_names.Given as goal
 

@@ -1,6 +1,6 @@
 use Rattle.std.proofs.Common.{◌≡◌, drop}
-use Rattle.gr_base.specs.NameMaps.{found_under}
-use Rattle.flow_types.specs.Walk.{nothing_known, names_gathered}
+use Rattle.gr_base.specs.Prelude.{found_under}
+use Rattle.flow_types.specs.Prelude.{nothing_known, names_gathered}
 use Rattle.flow_types.proofs.declarations.gather.Given as goal
 
 abbrev pub invariant-loop-i : goal.invariant-loop-i

@@ -1,5 +1,5 @@
 use Rattle.std.proofs.Common.{◌≡◌, drop}
-use Rattle.src_tree.specs.FirstFault.{length_fault}
+use Rattle.src_tree.specs.Prelude.{length_fault}
 use Rattle.flow_types.proofs.declarations.length_fault.Given as goal
 
 abbrev pub invariant-loop-i : goal.invariant-loop-i

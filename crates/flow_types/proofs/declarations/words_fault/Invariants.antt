@@ -1,5 +1,5 @@
 use Rattle.std.proofs.Common.{◌≡◌, ◌≤◌, drop}
-use Rattle.src_tree.specs.FirstFault.{words_fault}
+use Rattle.src_tree.specs.Prelude.{words_fault}
 use Rattle.flow_types.proofs.declarations.words_fault.Given as goal
 
 abbrev pub invariant-loop-i : goal.invariant-loop-i

@@ -1,8 +1,7 @@
 use Rattle.std.proofs.Common.{◌≡◌, ◌+◌, ◌-◌, ◌^◌, ◌≤◌, ◌||◌, min, drop}
-use Rattle.src_tree.specs.Limits.{block_weight}
-use Rattle.gr_base.specs.NameMaps.{found_under}
-use Rattle.src_tree.specs.Trees.{block_of_all}
-use Rattle.flow_types.specs.Surveys.{is_faulty_block}
+use Rattle.src_tree.specs.Prelude.{block_weight, block_of_all}
+use Rattle.gr_base.specs.Prelude.{found_under}
+use Rattle.flow_types.specs.Prelude.{is_faulty_block}
 use Rattle.flow_types.proofs.surveys.+surveys.Given as goal
 
 abbrev pub invariant-survey_block-loop-statement : goal.invariant-survey_block-loop-statement

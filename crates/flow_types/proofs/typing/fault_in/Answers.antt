@@ -1,9 +1,8 @@
 use Rattle.std.proofs.Common.{sym, ap, ◌∙◌}
 use Rattle.std.proofs.lemmas.Bool.{not-true}
 use Rattle.std.specs.Option.{option_or}
-use Rattle.src_tree.specs.Trees.{source_of}
-use Rattle.src_tree.specs.FirstFault.{weight_fault}
-use Rattle.gr_base.specs.NameMaps.{found_under}
+use Rattle.src_tree.specs.Prelude.{source_of, weight_fault}
+use Rattle.gr_base.specs.Prelude.{found_under}
 use Rattle.flow_types.proofs.Surveyed.{none_faulty}
 use Rattle.flow_types.proofs.typing.fault_in.Goals as goal
 

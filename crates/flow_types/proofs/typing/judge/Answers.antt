@@ -1,13 +1,11 @@
 use Rattle.std.proofs.Common.{◌≡◌, Ok, sym, subst, ◌∙◌, ap}
 use Rattle.gr_word.specs.declared.variables.Label.TheVariants.{Public}
-use Rattle.src_tree.specs.Trees.{source_of, block_of_all}
-use Rattle.src_tree.specs.Limits.{block_weight}
-use Rattle.src_tree.specs.FirstFault.{shown_number}
-use Rattle.gr_base.specs.NameMaps.{found_under}
-use Rattle.flow_types.specs.Walk.{names_gathered, nothing_known, IsRefusal}
+use Rattle.src_tree.specs.Prelude.{source_of, block_of_all, block_weight, shown_number}
+use Rattle.gr_base.specs.Prelude.{found_under}
+use Rattle.flow_types.specs.Prelude.{names_gathered, nothing_known, IsRefusal}
 use Rattle.flow_types.proofs.Judged.{declarations_refused, explained, IsJudged, first_found, weight_exact, weight_named}
-use Rattle.flow_types.proofs.typing.judge.Goals as goal
 use Rattle.flow_types.proofs.typing.judge.Goals.{After-fault_in}
+use Rattle.flow_types.proofs.typing.judge.Goals as goal
 
 pub returns-in-Err-clause-refused : goal.returns-in-Err-clause-refused
 returns-in-Err-clause-refused c =

@@ -1,4 +1,4 @@
-use Rattle.src_tree.specs.Trees.{source_of}
+use Rattle.src_tree.specs.Prelude.{source_of}
 use Rattle.src_tree.proofs.Faultless.{fine}
 use Rattle.flow_types.proofs.typing.type_program.Goals as goal
 

@@ -1,7 +1,7 @@
 use Rattle.std.proofs.Common.{◌≡◌, drop}
-use Rattle.gr_base.specs.NameMaps.{found_under}
-use Rattle.flow_types.specs.Walk.{cause_of, walk_block}
-use Rattle.src_tree.specs.Trees.{block_of_all}
+use Rattle.gr_base.specs.Prelude.{found_under}
+use Rattle.flow_types.specs.Prelude.{cause_of, walk_block}
+use Rattle.src_tree.specs.Prelude.{block_of_all}
 use Rattle.flow_types.proofs.walks.+walks.Given as goal
 
 abbrev pub invariant-walk_block-loop-statement : goal.invariant-walk_block-loop-statement

@@ -1,7 +1,7 @@
 use Rattle.std.proofs.Common.{◌≡◌, ◌++◌, drop}
 use Rattle.std.specs.List.{AllByRecursion}
-use Rattle.src_tree.specs.Limits.{LengthFits}
-use Rattle.flow_types.specs.Wants.{declared_wants}
+use Rattle.src_tree.specs.Prelude.{LengthFits}
+use Rattle.flow_types.specs.Prelude.{declared_wants}
 use Rattle.flow_types.proofs.wants.declared_wants.Given as goal
 
 abbrev pub invariant-loop-decl : goal.invariant-loop-decl

@@ -1,6 +1,6 @@
 use Rattle.std.proofs.lemmas.Int.{ints}
 use Rattle.std.proofs.Common.{◌≡◌, suc, ◌+◌, ◌<◌, to_z, of_z, w64, ℤ, pos, List, [], ◌∷◌, ◌++◌, sym, ap, ap₂, ◌∙◌, arith}
-use Rattle.call_steps.specs.Histogram.{next_number, histogram_number}
+use Rattle.call_steps.specs.Prelude.{next_number, histogram_number}
 use Rattle.ghost_cli.proofs.SampleInputs.{number_at-first, number_at-next, number_at-small, numbers-more}
 use Rattle.ghost_cli.proofs.histogram.numbers.Goals as goal
 

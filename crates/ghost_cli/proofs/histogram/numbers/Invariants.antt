@@ -1,5 +1,5 @@
 use Rattle.std.proofs.Common.{◌≡◌}
-use Rattle.call_steps.specs.Histogram.{histogram_number, histogram_numbers}
+use Rattle.call_steps.specs.Prelude.{histogram_number, histogram_numbers}
 use Rattle.ghost_cli.proofs.histogram.numbers.Given as goal
 
 abbrev pub invariant-loop : goal.invariant-loop

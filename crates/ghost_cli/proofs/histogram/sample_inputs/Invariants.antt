@@ -1,5 +1,5 @@
 use Rattle.std.proofs.Common.{◌≡◌, take}
-use Rattle.call_steps.specs.Histogram.{sample_inputs}
+use Rattle.call_steps.specs.Prelude.{sample_inputs}
 use Rattle.ghost_cli.proofs.histogram.sample_inputs.Given as goal
 
 abbrev pub invariant-loop-want : goal.invariant-loop-want

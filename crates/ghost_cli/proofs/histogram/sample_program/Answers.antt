@@ -1,8 +1,7 @@
 use Rattle.std.proofs.Common.{◌≡◌, false, ◌≤◌, ◌∙◌, length, subst, ℕ, List, sym}
 use Rattle.std.proofs.lemmas.Result.{IfErr-weaker, IfOk-weaker}
-use Rattle.src_tree.specs.Trees.{source_of}
-use Rattle.call_steps.specs.Histogram.{sample_text}
-use Rattle.call_steps.specs.Sources.{SpellsTyped}
+use Rattle.src_tree.specs.Prelude.{source_of}
+use Rattle.call_steps.specs.Prelude.{sample_text, SpellsTyped}
 use Rattle.call_laws.proofs.SampleMade.{sample-short, text-starved}
 use Rattle.ghost_cli.proofs.histogram.sample_program.Goals as goal
 

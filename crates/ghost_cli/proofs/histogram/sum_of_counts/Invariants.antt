@@ -1,5 +1,5 @@
 use Rattle.std.proofs.Common.{◌≡◌, ◌≤◌, ◌*◌, ◌^◌, take, unsigned_abs}
-use Rattle.call_steps.specs.Histogram.{sum_of}
+use Rattle.call_steps.specs.Prelude.{sum_of}
 use Rattle.ghost_cli.proofs.histogram.sum_of_counts.Given as goal
 
 abbrev pub invariant-loop-count : goal.invariant-loop-count

@@ -1,6 +1,6 @@
 use Rattle.std.proofs.Common.{sym, subst}
 use Rattle.std.proofs.lemmas.Result.{IfErr-weaker, IfOk-weaker, err_from_is_err_and}
-use Rattle.call_steps.specs.Objects.{SpellsObject}
+use Rattle.call_steps.specs.Prelude.{SpellsObject}
 use Rattle.ghost_cli.proofs.PureCalls.{not-accepted, not-spelled}
 use Rattle.ghost_cli.proofs.pure.checked_bytes.Goals as goal
 

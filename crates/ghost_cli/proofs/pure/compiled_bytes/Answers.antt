@@ -1,5 +1,5 @@
 use Rattle.std.proofs.lemmas.Result.{IfErr-weaker, IfOk-weaker, err_from_is_err_and}
-use Rattle.src_tree.specs.Trees.{source_of}
+use Rattle.src_tree.specs.Prelude.{source_of}
 use Rattle.call_laws.proofs.HeadlineVerbs.{compiled-program}
 use Rattle.ghost_cli.proofs.PureCalls.{no-program, not-compiled}
 use Rattle.ghost_cli.proofs.pure.compiled_bytes.Goals as goal

@@ -1,12 +1,9 @@
 use Rattle.std.proofs.Common.{IfErr, IfOk, ℤ, List, Ok, ap, ◌∙◌, subst}
 use Rattle.gr_word.specs.declared.variables.Want.{Want}
-use Rattle.lt_isa.specs.Start.{wants_of}
+use Rattle.lt_isa.specs.Prelude.{wants_of}
 use Rattle.call_replies.specs.declared.replies.Verdict.TheVariants.{BadInput}
-use Rattle.call_steps.specs.Progress.{EndsWorkWith}
-use Rattle.call_steps.specs.Questions.{AreInputs, WhichInputs}
-use Rattle.call_steps.specs.Steps.{or_ends}
-use Rattle.call_replies.specs.Texts.{said}
-use Rattle.call_steps.specs.Work.{Work}
+use Rattle.call_steps.specs.Prelude.{EndsWorkWith, AreInputs, WhichInputs, or_ends, Work}
+use Rattle.call_replies.specs.Prelude.{said}
 use Rattle.ghost_cli.proofs.pure.given_inputs.Goals as goal
 
 pub returns-clause-given : goal.returns-clause-given

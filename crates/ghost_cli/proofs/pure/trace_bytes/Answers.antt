@@ -1,5 +1,5 @@
 use Rattle.std.proofs.lemmas.Result.{err_from_is_err_and}
-use Rattle.ghost_cli.specs.Pure.{NotRunnable}
+use Rattle.ghost_cli.specs.Prelude.{NotRunnable}
 use Rattle.ghost_cli.proofs.PureCalls.{no-inputs}
 use Rattle.ghost_cli.proofs.pure.trace_bytes.Goals as goal
 

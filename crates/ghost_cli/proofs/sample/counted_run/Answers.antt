@@ -1,9 +1,8 @@
 use Rattle.std.proofs.Common.{◌≡◌, [], ap, ◌∙◌, subst}
-use Rattle.lt_isa.specs.Trace.{trace_from}
-use Rattle.lt_isa.specs.Start.{wants_of}
+use Rattle.lt_isa.specs.Prelude.{trace_from, wants_of}
 use Rattle.processor.specs.declared.ends.End.{End}
-use Rattle.processor.specs.Ends.{EndsAs}
-use Rattle.call_steps.specs.Histogram.{sample_cycles, sample_inputs}
+use Rattle.processor.specs.Prelude.{EndsAs}
+use Rattle.call_steps.specs.Prelude.{sample_cycles, sample_inputs}
 use Rattle.ghost_cli.proofs.SampleRuns.{sample-fits, ran-counted, ran-out}
 use Rattle.ghost_cli.proofs.sample.counted_run.Goals as goal
 

@@ -1,7 +1,7 @@
 use Rattle.std.proofs.Common.{Option, refl, subst}
-use Rattle.object_file.specs.Spelling.{spelling}
-use Rattle.src_tree.specs.Trees.{source_of}
-use Rattle.ghost_cli.specs.Sampled.{RanCounted}
+use Rattle.object_file.specs.Prelude.{spelling}
+use Rattle.src_tree.specs.Prelude.{source_of}
+use Rattle.ghost_cli.specs.Prelude.{RanCounted}
 use Rattle.ghost_cli.specs.declared.sample.CountedRun.{CountedRun}
 use Rattle.ghost_cli.proofs.Samples.{made_of, ready-made}
 use Rattle.ghost_cli.proofs.sample.made.Goals as goal

@@ -1,15 +1,12 @@
 use Rattle.std.proofs.Common.{sym, subst}
 use Rattle.std.proofs.lemmas.Result.{err_from_is_err_and}
-use Rattle.lt_isa.specs.Object.{Parts}
-use Rattle.src_tree.specs.Trees.{source_of}
+use Rattle.lt_isa.specs.Prelude.{Parts}
+use Rattle.src_tree.specs.Prelude.{source_of}
 use Rattle.lt_isa.specs.declared.profiles.Profile.{Profile}
-use Rattle.object_file.specs.Spelling.{spelling}
-use Rattle.call_steps.specs.Compile.{on_compiled}
-use Rattle.call_steps.specs.Compiled.{IsCompiledTo}
-use Rattle.call_steps.specs.Progress.{EndsWorkWith}
-use Rattle.call_steps.specs.Questions.{WhichCompiled}
-use Rattle.call_replies.specs.Texts.{said}
-use Rattle.ghost_cli.specs.Sampled.{SampleIsReady}
+use Rattle.object_file.specs.Prelude.{spelling}
+use Rattle.call_steps.specs.Prelude.{on_compiled, IsCompiledTo, EndsWorkWith, WhichCompiled}
+use Rattle.call_replies.specs.Prelude.{said}
+use Rattle.ghost_cli.specs.Prelude.{SampleIsReady}
 use Rattle.call_laws.proofs.SampleMade.{compile-starved, check-starved, compiled-accepted}
 use Rattle.ghost_cli.proofs.sample.ready.Goals as goal
 

@@ -1,8 +1,8 @@
 use Rattle.std.proofs.Common.{rules, ◌≡◌, ℤ, refl, ap, ◌∙◌, arith, to_z, of_z}
 use Rattle.std.specs.Int.{w128}
 use Rattle.std.proofs.lemmas.Int.{to_z-of_z}
-use Rattle.object_file.specs.Spelling.{spelling}
-use Rattle.src_tree.specs.Trees.{source_of}
+use Rattle.object_file.specs.Prelude.{spelling}
+use Rattle.src_tree.specs.Prelude.{source_of}
 use Rattle.call_laws.proofs.SampleMade.{is-sample}
 use Rattle.ghost_cli.proofs.Samples.{file-made, ready-done}
 use Rattle.ghost_cli.proofs.sample.sample_of_run.Goals as goal

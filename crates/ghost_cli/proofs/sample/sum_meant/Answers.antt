@@ -1,7 +1,7 @@
 use Rattle.std.proofs.Common.{ℤ, List, sym, ap, ◌∙◌, subst}
-use Rattle.gr_word.specs.Fitting.{FitsWants}
-use Rattle.flow_types.specs.Wants.{declared_wants}
-use Rattle.call_steps.specs.Histogram.{sample_inputs}
+use Rattle.gr_word.specs.Prelude.{FitsWants}
+use Rattle.flow_types.specs.Prelude.{declared_wants}
+use Rattle.call_steps.specs.Prelude.{sample_inputs}
 use Rattle.ghost_cli.proofs.SampleInputs.{sample-fit}
 use Rattle.ghost_cli.proofs.sample.sum_meant.Goals as goal
 

@@ -1,7 +1,6 @@
 use Rattle.std.proofs.Common.{refl, sym}
-use Rattle.call_steps.specs.Progress.{NothingAsked}
+use Rattle.call_steps.specs.Prelude.{NothingAsked, NoCalls}
 use Rattle.ghost_cli.proofs.CallsNamed.{no-words}
-use Rattle.call_steps.specs.CallsFollow.{NoCalls}
 use Rattle.ghost_cli.proofs.top.answered.Goals as goal
 
 pub returns-then-words-eq0-clause-stopped : goal.returns-then-words-eq0-clause-stopped

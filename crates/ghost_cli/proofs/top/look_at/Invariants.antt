@@ -1,6 +1,5 @@
 use Rattle.std.proofs.Common.{drop}
-use Rattle.command_words.specs.CommandLines.{AreTexts}
-use Rattle.command_words.specs.Options.{texts}
+use Rattle.command_words.specs.Prelude.{AreTexts, texts}
 use Rattle.ghost_cli.proofs.top.look_at.Given as goal
 
 abbrev pub invariant-looking : goal.invariant-looking

@@ -2,13 +2,11 @@ use Rattle.std.proofs.Common.{ap, refl, sym, ◌∙◌}
 use Rattle.std.specs.Prelude.{option_and_then}
 use Rattle.clap.specs.Words.{found_of, rows_of}
 use Rattle.clap.specs.declared.parser.matches.ArgMatches.{ArgMatches}
-use Rattle.command_words.specs.Options.{texts}
-use Rattle.call_steps.specs.Progress.{NothingAsked}
-use Rattle.command_words.specs.Verbs.{asked_for, asks_of}
+use Rattle.command_words.specs.Prelude.{texts, asked_for, asks_of}
+use Rattle.call_steps.specs.Prelude.{NothingAsked, NoCalls}
 use Rattle.command_words.specs.declared.verbs.Verb.{Verb}
-use Rattle.call_laws.specs.Verbs.{works}
+use Rattle.call_laws.specs.Prelude.{works}
 use Rattle.command_words.proofs.Wording.{verb-found}
-use Rattle.call_steps.specs.CallsFollow.{NoCalls}
 use Rattle.call_steps.proofs.Answering.{told-done, told-left}
 use Rattle.call_steps.proofs.CallsMade.{told-made}
 use Rattle.ghost_cli.proofs.top.perform.Goals as goal

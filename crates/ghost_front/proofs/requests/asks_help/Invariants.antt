@@ -1,6 +1,6 @@
 use Rattle.std.proofs.Common.{◌≡◌, drop}
-use Rattle.command_words.specs.Options.{texts}
-use Rattle.ghost_front.specs.Requests.{asks_help}
+use Rattle.command_words.specs.Prelude.{texts}
+use Rattle.ghost_front.specs.Prelude.{asks_help}
 use Rattle.ghost_front.proofs.requests.asks_help.Given as goal
 
 abbrev pub invariant-loop-word : goal.invariant-loop-word

@@ -1,5 +1,5 @@
-use Rattle.command_words.specs.Options.{texts}
-use Rattle.call_laws.specs.Verbs.{work_of}
+use Rattle.command_words.specs.Prelude.{texts}
+use Rattle.call_laws.specs.Prelude.{work_of}
 use Rattle.ghost_front.proofs.CallEnds.{told_keeps_after}
 use Rattle.ghost_front.proofs.tools.serve_tool.Goals as goal
 

@@ -1,6 +1,6 @@
 use Rattle.std.proofs.Common.{true≢false, is_some, sym, ap, ◌∙◌}
-use Rattle.command_words.specs.Options.{texts}
-use Rattle.call_laws.specs.Verbs.{work_of}
+use Rattle.command_words.specs.Prelude.{texts}
+use Rattle.call_laws.specs.Prelude.{work_of}
 use Rattle.ghost_front.proofs.CallEnds.{told_keeps}
 use Rattle.ghost_front.proofs.top.end_call.Goals as goal
 

@@ -1,7 +1,6 @@
 use Rattle.std.proofs.Common.{◌≡◌, false, List, ℕ, subst}
-use Rattle.call_laws.specs.Verbs.{work_of}
-use Rattle.ghost_front.specs.Requests.{asks_front, asks_tool}
-use Rattle.ghost_front.specs.Served.{KeepsOthers, Serves, around}
+use Rattle.call_laws.specs.Prelude.{work_of}
+use Rattle.ghost_front.specs.Prelude.{asks_front, asks_tool, KeepsOthers, Serves, around}
 use Rattle.ghost_front.proofs.top.front.Goals as goal
 
 pub returns-clause-served : goal.returns-clause-served

@@ -1,7 +1,7 @@
 use Rattle.std.proofs.Common.{true≢false, is_some, sym, ap, ◌∙◌}
-use Rattle.command_words.specs.Options.{texts}
-use Rattle.call_laws.specs.Verbs.{work_of}
-use Rattle.ghost_front.specs.Served.{around}
+use Rattle.command_words.specs.Prelude.{texts}
+use Rattle.call_laws.specs.Prelude.{work_of}
+use Rattle.ghost_front.specs.Prelude.{around}
 use Rattle.ghost_front.proofs.CallEnds.{serves_keep}
 use Rattle.ghost_front.proofs.top.serve_other.Goals as goal
 

@@ -1,6 +1,6 @@
-use Rattle.command_words.specs.Options.{texts}
-use Rattle.call_laws.specs.Verbs.{work_of}
-use Rattle.ghost_front.specs.Served.{around}
+use Rattle.command_words.specs.Prelude.{texts}
+use Rattle.call_laws.specs.Prelude.{work_of}
+use Rattle.ghost_front.specs.Prelude.{around}
 use Rattle.ghost_front.proofs.CallEnds.{said_later}
 use Rattle.ghost_front.proofs.top.serve_words.Goals as goal
 

@@ -1,6 +1,6 @@
 use Rattle.std.proofs.Common.{ap, ◌∙◌}
-use Rattle.gr_outside.specs.MemSink.{Held}
-use Rattle.command_words.specs.Options.{texts}
+use Rattle.gr_outside.specs.Prelude.{Held}
+use Rattle.command_words.specs.Prelude.{texts}
 use Rattle.ghost_page.proofs.Answered.{answered}
 use Rattle.ghost_page.proofs.calls.call.Goals as goal
 

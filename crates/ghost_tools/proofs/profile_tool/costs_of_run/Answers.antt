@@ -1,5 +1,5 @@
 use Rattle.std.proofs.Common.{ap, ◌∙◌}
-use Rattle.lt_isa.specs.Machine.{State}
+use Rattle.lt_isa.specs.Prelude.{State}
 use Rattle.object_tools.proofs.Begun.{first-cycle, first-place}
 use Rattle.ghost_tools.proofs.profile_tool.costs_of_run.Goals as goal
 

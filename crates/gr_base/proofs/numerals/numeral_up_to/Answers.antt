@@ -1,6 +1,6 @@
 use Rattle.std.proofs.Common.{◌≡◌, true, sym, ◌∙◌, arith}
 use Rattle.std.proofs.lemmas.Bool.{false≢true}
-use Rattle.gr_base.specs.Numerals.{is_canonical_numeral}
+use Rattle.gr_base.specs.Prelude.{is_canonical_numeral}
 use Rattle.gr_base.proofs.Digits.{canonical_from_test, one_numeral}
 use Rattle.gr_base.proofs.numerals.numeral_up_to.Goals as goal
 

@@ -1,6 +1,6 @@
 use Rattle.std.proofs.Common.{◌≡◌, sym, ap, ◌∙◌, to_z, of_z, w64}
 use Rattle.std.proofs.lemmas.Int.{to_z-of_z}
-use Rattle.held_registers.specs.Held.{register_of_number}
+use Rattle.held_registers.specs.Prelude.{register_of_number}
 use Rattle.held_registers.proofs.Sound.{number-there}
 use Rattle.held_registers.proofs.registers.hold_number.Goals as goal
 

@@ -1,12 +1,9 @@
 use Rattle.std.proofs.Common.{◌<◌, length, refl, sym, ap, ◌∙◌, subst, arith}
-use Rattle.lt_isa.specs.Trace.{final_from, trace_from}
+use Rattle.lt_isa.specs.Prelude.{final_from, trace_from, Parts}
 use Rattle.lt_isa.proofs.Steps.{step_start-least}
 use Rattle.processor.specs.declared.ends.End.{End}
-use Rattle.processor.specs.Ends.{EndsAs}
-use Rattle.lt_isa.specs.Object.{Parts}
-use Rattle.line_costs.specs.Costs.{end_cycle, part_of}
-use Rattle.line_costs.specs.Counting.{added}
-use Rattle.line_costs.specs.Steps.{next_of}
+use Rattle.processor.specs.Prelude.{EndsAs}
+use Rattle.line_costs.specs.Prelude.{end_cycle, part_of, added, next_of}
 use Rattle.line_costs.proofs.Counted.{accesses-fit, counted-next, counted-none, cycles-fit, halt-accesses, halt-ends, once-in, over-in, padding-fits, place-next, place-within, spent-accesses, spent-cycles, spent-ends, stops-in}
 use Rattle.line_costs.proofs.costs.run_costs.Goals as goal
 

@@ -1,6 +1,6 @@
 use Rattle.std.proofs.Common.{◌≡◌, ◌-◌, IsTrue}
+use Rattle.line_costs.specs.Prelude.{CountedSoFar}
 use Rattle.processor.specs.declared.ends.End.TheVariants as end
-use Rattle.line_costs.specs.Counting.{CountedSoFar}
 use Rattle.line_costs.proofs.costs.run_costs.Given as goal
 
 abbrev pub invariant-running : goal.invariant-running

@@ -1,11 +1,10 @@
 use Rattle.std.proofs.Common.{◌≡◌, ◌+◌, None, inl, inr, sym, ◌∙◌, arith}
 use Rattle.std.specs.Prelude.{slice_get}
-use Rattle.lt_isa.specs.Step.{step_start}
-use Rattle.lt_isa.specs.Trace.{final_from, trace_from}
+use Rattle.lt_isa.specs.Prelude.{step_start, final_from, trace_from}
 use Rattle.lt_isa.proofs.Steps.{step-outside, step_start-least}
-use Rattle.processor.specs.declared.ends.End.TheVariants as end
-use Rattle.processor.specs.Ends.{EndsAs}
+use Rattle.processor.specs.Prelude.{EndsAs}
 use Rattle.line_costs.proofs.OneStep.{found-at, goes-on, halts, halts-at_once, none-found, rests, run-ends, run-left, stays-paused}
+use Rattle.processor.specs.declared.ends.End.TheVariants as end
 use Rattle.line_costs.proofs.single_steps.step.Goals as goal
 
 pub returns-then-before-from-clause-went : goal.returns-then-before-from-clause-went

@@ -1,5 +1,4 @@
-use Rattle.lt_assembler.specs.Lines.{lines}
-use Rattle.lt_assembler.specs.Seen.{draft_of}
+use Rattle.lt_assembler.specs.Prelude.{lines, draft_of}
 use Rattle.lt_assembler.proofs.InRange.{in_range}
 use Rattle.lt_assembler.proofs.LineByLine.{text_found}
 use Rattle.lt_assembler.proofs.assembly.assembled.Goals as goal

@@ -1,5 +1,5 @@
 use Rattle.std.proofs.Common.{sym, ◌∙◌}
-use Rattle.lt_assembler.specs.Seen.{draft_of}
+use Rattle.lt_assembler.specs.Prelude.{draft_of}
 use Rattle.lt_assembler.proofs.InRange.{finished_is}
 use Rattle.lt_assembler.proofs.assembly.finish.Goals as goal
 

@@ -1,9 +1,6 @@
 use Rattle.std.proofs.Common.{◌≡◌, ◌+◌, length, Err, sym, ◌∙◌, ap, arith}
 use Rattle.std.proofs.lemmas.Bool.{eqb-true}
-use Rattle.lt_assembler.specs.Lines.{lines}
-use Rattle.lt_assembler.specs.LineParts.{first_line, behind_line}
-use Rattle.lt_assembler.specs.Reading.{read_lines}
-use Rattle.lt_assembler.specs.Seen.{draft_of}
+use Rattle.lt_assembler.specs.Prelude.{lines, first_line, behind_line, read_lines, draft_of}
 use Rattle.lt_assembler.proofs.Splitting.{lines_none, lines_front, positive}
 use Rattle.lt_assembler.proofs.FirstLine.{behind_less}
 use Rattle.lt_assembler.proofs.LineByLine.{read_one, read_fault, read_none, no_memory, text_fault, text_fine}

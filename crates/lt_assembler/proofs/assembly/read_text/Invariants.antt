@@ -1,8 +1,5 @@
 use Rattle.std.proofs.Common.{◌≡◌, ◌≤◌, ◌+◌, length}
-use Rattle.lt_assembler.specs.Lines.{lines}
-use Rattle.lt_assembler.specs.Drafts.{empty_draft}
-use Rattle.lt_assembler.specs.Reading.{read_lines}
-use Rattle.lt_assembler.specs.Seen.{draft_of}
+use Rattle.lt_assembler.specs.Prelude.{lines, empty_draft, read_lines, draft_of}
 use Rattle.lt_assembler.proofs.assembly.read_text.Given as goal
 
 abbrev pub invariant-loop-list : goal.invariant-loop-list

@@ -1,7 +1,7 @@
 use Rattle.std.proofs.Common.{◌≡◌, ◌++◌, List, ℕ, length, map, take, drop}
 use Rattle.std.specs.Borrow.{Bor}
 use Rattle.std.specs.Prelude.{option_map}
-use Rattle.lt_assembler.specs.Operands.{claims_of}
+use Rattle.lt_assembler.specs.Prelude.{claims_of}
 use Rattle.lt_assembler.proofs.code_lines.claims_of.Given as goal
 
 abbrev pub invariant-loop-i : goal.invariant-loop-i

@@ -1,8 +1,6 @@
 use Rattle.std.proofs.Common.{◌≡◌, ℕ, true, false, List, ◌∷◌, length, refl, sym, ◌∙◌, ap, arith}
 use Rattle.std.proofs.lemmas.Bool.{eqb-true}
-use Rattle.lt_assembler.specs.Lines.{lines}
-use Rattle.lt_assembler.specs.LineParts.{first_line, behind_line}
-use Rattle.lt_assembler.specs.Reading.{is_instruction_line, instruction_follows}
+use Rattle.lt_assembler.specs.Prelude.{lines, first_line, behind_line, is_instruction_line, instruction_follows}
 use Rattle.lt_assembler.proofs.Splitting.{lines_none, lines_front, positive}
 use Rattle.lt_assembler.proofs.FirstLine.{behind_less}
 use Rattle.lt_assembler.proofs.code_lines.instruction_follows.Goals as goal

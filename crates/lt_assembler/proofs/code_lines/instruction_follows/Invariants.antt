@@ -1,6 +1,5 @@
 use Rattle.std.proofs.Common.{◌≡◌, length}
-use Rattle.lt_assembler.specs.Lines.{lines}
-use Rattle.lt_assembler.specs.Reading.{instruction_follows}
+use Rattle.lt_assembler.specs.Prelude.{lines, instruction_follows}
 use Rattle.lt_assembler.proofs.code_lines.instruction_follows.Given as goal
 
 abbrev pub invariant-loop-list : goal.invariant-loop-list

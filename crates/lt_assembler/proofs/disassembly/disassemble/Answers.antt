@@ -1,5 +1,5 @@
 use Rattle.std.proofs.Common.{ℕ, ◌≤◌, List, ◌++◌, length, subst, sym, ap, ◌∙◌}
-use Rattle.lt_assembler.specs.Canonical.{canonical}
+use Rattle.lt_assembler.specs.Prelude.{canonical}
 use Rattle.lt_assembler.proofs.CanonicalSizes.{canonical_short}
 use Rattle.lt_assembler.proofs.disassembly.disassemble.Goals as goal
 

@@ -1,5 +1,5 @@
 use Rattle.std.proofs.Common.{◌≡◌, ◌++◌, map, flat_map, take}
-use Rattle.lt_assembler.specs.Canonical.{words_for_bank, line}
+use Rattle.lt_assembler.specs.Prelude.{words_for_bank, line}
 use Rattle.lt_assembler.proofs.disassembly.put_banks.Given as goal
 
 abbrev pub invariant-loop-bank : goal.invariant-loop-bank

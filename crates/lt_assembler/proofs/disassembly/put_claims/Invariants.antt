@@ -1,5 +1,5 @@
 use Rattle.std.proofs.Common.{◌≡◌, ◌∷◌, ◌++◌, flat_map, take}
-use Rattle.lt_assembler.specs.Words.{claim_word}
+use Rattle.lt_assembler.specs.Prelude.{claim_word}
 use Rattle.lt_assembler.proofs.disassembly.put_claims.Given as goal
 
 abbrev pub invariant-loop-claim : goal.invariant-loop-claim

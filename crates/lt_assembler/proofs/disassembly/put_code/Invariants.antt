@@ -1,5 +1,5 @@
 use Rattle.std.proofs.Common.{◌≡◌, ◌++◌, flat_map, drop}
-use Rattle.lt_assembler.specs.Canonical.{code_words, line}
+use Rattle.lt_assembler.specs.Prelude.{code_words, line}
 use Rattle.lt_assembler.proofs.disassembly.put_code.Given as goal
 
 abbrev pub invariant-loop-place : goal.invariant-loop-place

@@ -1,5 +1,5 @@
 use Rattle.std.proofs.Common.{rules, append_assoc}
-use Rattle.lt_assembler.specs.Words.{claim_word, hex_word}
+use Rattle.lt_assembler.specs.Prelude.{claim_word, hex_word}
 use Rattle.lt_assembler.proofs.Joined.{join-map}
 use Rattle.lt_assembler.proofs.disassembly.put_note.Goals as goal
 

@@ -1,5 +1,5 @@
 use Rattle.std.proofs.Common.{◌≡◌, ◌++◌, map, flat_map, take}
-use Rattle.lt_assembler.specs.Canonical.{words_for_symbol, line}
+use Rattle.lt_assembler.specs.Prelude.{words_for_symbol, line}
 use Rattle.lt_assembler.proofs.disassembly.put_symbols.Given as goal
 
 abbrev pub invariant-loop-symbol : goal.invariant-loop-symbol

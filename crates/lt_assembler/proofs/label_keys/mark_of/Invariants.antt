@@ -1,5 +1,5 @@
 use Rattle.std.proofs.Common.{◌≡◌, drop}
-use Rattle.lt_assembler.specs.Marks.{mark_from, mark_of}
+use Rattle.lt_assembler.specs.Prelude.{mark_from, mark_of}
 use Rattle.lt_assembler.proofs.label_keys.mark_of.Given as goal
 
 abbrev pub invariant-loop-byte : goal.invariant-loop-byte

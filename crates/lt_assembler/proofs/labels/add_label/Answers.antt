@@ -1,8 +1,7 @@
 use Rattle.std.proofs.Common.{◌∙◌, ap, sym}
 use Rattle.std.proofs.Math.Bool.{not-not}
 use Rattle.std.specs.Prelude.{not, is_some}
-use Rattle.lt_assembler.specs.Drafts.{place_of, with_label}
-use Rattle.lt_assembler.specs.Seen.{by_name}
+use Rattle.lt_assembler.specs.Prelude.{place_of, with_label, by_name}
 use Rattle.lt_assembler.proofs.LabelMaps.{seen_insert, seen_there}
 use Rattle.lt_assembler.proofs.labels.add_label.Goals as goal
 

@@ -1,8 +1,7 @@
 use Rattle.std.proofs.Common.{◌∙◌, ap}
 use Rattle.std.specs.Prelude.{option_map}
 use Rattle.lt_assembler.specs.declared.draft.CodePlace.{CodePlace}
-use Rattle.lt_assembler.specs.Drafts.{place_of}
-use Rattle.lt_assembler.specs.Seen.{by_name}
+use Rattle.lt_assembler.specs.Prelude.{place_of, by_name}
 use Rattle.lt_assembler.proofs.LabelMaps.{seen_lookup}
 use Rattle.lt_assembler.proofs.labels.place_of.Goals as goal
 

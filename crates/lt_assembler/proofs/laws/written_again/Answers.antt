@@ -1,5 +1,5 @@
 use Rattle.std.proofs.Common.{subst, sym, ◌∙◌}
-use Rattle.lt_assembler.specs.Spelled.{SpellsInText}
+use Rattle.lt_assembler.specs.Prelude.{SpellsInText}
 use Rattle.lt_assembler.proofs.CanonicalSpells.{canonical-spells}
 use Rattle.lt_assembler.proofs.laws.written_again.Goals as goal
 

@@ -1,6 +1,6 @@
 use Rattle.std.proofs.Common.{◌≡◌, ℕ, List, drop, sym, ap, subst, ◌∙◌}
 use Rattle.std.proofs.lemmas.List.Sums.{prefix_len-le-length}
-use Rattle.lt_assembler.specs.LineParts.{is_comment}
+use Rattle.lt_assembler.specs.Prelude.{is_comment}
 use Rattle.lt_assembler.proofs.FirstLine.{EndsAt, ends, ends_empty, ends_feed, ends_foreign}
 use Rattle.lt_assembler.proofs.lines.behind_ascii.Goals as goal
 

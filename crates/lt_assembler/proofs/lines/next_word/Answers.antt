@@ -1,7 +1,6 @@
 use Rattle.std.proofs.Common.{◌≡◌, ℕ, ◌<◌, List, drop, sym, ap, ◌∙◌, arith}
 use Rattle.std.proofs.lemmas.List.Sums.{prefix_len-le-length}
-use Rattle.lt_assembler.specs.Lines.{is_blank}
-use Rattle.lt_assembler.specs.LineParts.{is_part}
+use Rattle.lt_assembler.specs.Prelude.{is_blank, is_part}
 use Rattle.lt_assembler.proofs.FirstLine.{no_next, next_word}
 use Rattle.lt_assembler.proofs.lines.next_word.Goals as goal
 

@@ -1,8 +1,7 @@
 use Rattle.std.proofs.Common.{◌≡◌, ◌≤◌, ◌++◌, true, length, map, take}
 use Rattle.std.specs.Borrow.{Bor}
 use Rattle.std.specs.Prelude.{List, ℕ}
-use Rattle.lt_assembler.specs.Lines.{is_ascii_line}
-use Rattle.lt_assembler.specs.LineParts.{first_line, line_words, behind_line}
+use Rattle.lt_assembler.specs.Prelude.{is_ascii_line, first_line, line_words, behind_line}
 use Rattle.lt_assembler.proofs.lines.split_line.Given as goal
 
 abbrev pub invariant-loop-word : goal.invariant-loop-word

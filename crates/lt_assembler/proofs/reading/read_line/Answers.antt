@@ -1,10 +1,5 @@
 use Rattle.std.proofs.Common.{◌≡◌, ℕ, true, List, map, sym, ◌∙◌, ap, Bor}
-use Rattle.lt_assembler.specs.Words.{Word}
-use Rattle.lt_assembler.specs.Drafts.{Draft}
-use Rattle.lt_assembler.specs.Lines.{lines, is_ascii_line}
-use Rattle.lt_assembler.specs.LineParts.{first_line, line_words, behind_line}
-use Rattle.lt_assembler.specs.Reading.{by_first_word, line_read, instruction_follows}
-use Rattle.lt_assembler.specs.Seen.{draft_of}
+use Rattle.lt_assembler.specs.Prelude.{Word, Draft, lines, is_ascii_line, first_line, line_words, behind_line, by_first_word, line_read, instruction_follows, draft_of}
 use Rattle.lt_assembler.proofs.LongLines.{line_of_words, line_refused}
 use Rattle.lt_assembler.proofs.reading.read_line.Goals as goal
 

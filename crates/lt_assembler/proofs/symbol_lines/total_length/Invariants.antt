@@ -1,5 +1,5 @@
 use Rattle.std.proofs.Common.{◌≡◌, ◌*◌, ◌≤◌, take}
-use Rattle.lt_isa.specs.Ranges.{total_length}
+use Rattle.lt_isa.specs.Prelude.{total_length}
 use Rattle.lt_assembler.proofs.symbol_lines.total_length.Given as goal
 
 abbrev pub invariant-loop-symbol : goal.invariant-loop-symbol

@@ -1,6 +1,5 @@
 use Rattle.std.proofs.Common.{◌≡◌, map, drop}
-use Rattle.lt_assembler.specs.Assembled.{settled}
-use Rattle.lt_assembler.specs.Seen.{by_name, seen_use}
+use Rattle.lt_assembler.specs.Prelude.{settled, by_name, seen_use}
 use Rattle.lt_assembler.proofs.targets.settle.Given as goal
 
 abbrev pub invariant-loop-found : goal.invariant-loop-found

@@ -1,6 +1,6 @@
 use Rattle.std.proofs.Common.{◌∙◌}
 use Rattle.std.proofs.lemmas.Result.{IfOk-weaker}
-use Rattle.lt_checker.specs.ByPlace.{effect_at, effect_from}
+use Rattle.lt_checker.specs.Prelude.{effect_at, effect_from}
 use Rattle.lt_checker.proofs.places.effect_from.Goals as goal
 
 pub returns-in-Enters : goal.returns-in-Enters

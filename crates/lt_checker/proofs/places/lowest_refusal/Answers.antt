@@ -1,8 +1,7 @@
 use Rattle.std.proofs.Common.{◌+◌, ap, sym, ◌∙◌, below_more, arith}
 use Rattle.std.specs.Option.{option_map}
-use Rattle.lt_checker.specs.ByPlace.{Here, arrival_at, effect_from, refusal_in}
+use Rattle.lt_checker.specs.Prelude.{Here, arrival_at, effect_from, refusal_in, refused}
 use Rattle.lt_checker.proofs.Reached.{reached_at-zero, reached_at-next}
-use Rattle.lt_checker.specs.Effects.{refused}
 use Rattle.lt_checker.proofs.places.lowest_refusal.Goals as goal
 
 pub loop-place-init : goal.loop-place-init

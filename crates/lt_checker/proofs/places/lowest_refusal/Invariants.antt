@@ -1,6 +1,5 @@
 use Rattle.std.proofs.Common.{◌≡◌}
-use Rattle.lt_checker.specs.ByPlace.{reached_at, NoneBelow}
-use Rattle.lt_checker.specs.Effects.{arrived}
+use Rattle.lt_checker.specs.Prelude.{reached_at, NoneBelow, arrived}
 use Rattle.lt_checker.proofs.places.lowest_refusal.Given as goal
 
 abbrev pub invariant-loop-place : goal.invariant-loop-place

@@ -1,9 +1,8 @@
 use Rattle.std.proofs.Common.{◌-◌, ℤ, length, subst}
 use Rattle.lt_isa.proofs.Offsets.{handed_on}
-use Rattle.lt_isa.specs.Ranges.{IsOffset}
-use Rattle.trace_patterns.specs.SymStates.{at_entry}
-use Rattle.trace_patterns.specs.Walk.{BlockedAt}
-use Rattle.region_walk.specs.Crossings.{IsCrossed}
+use Rattle.lt_isa.specs.Prelude.{IsOffset}
+use Rattle.trace_patterns.specs.Prelude.{at_entry, BlockedAt}
+use Rattle.region_walk.specs.Prelude.{IsCrossed}
 use Rattle.lt_checker.proofs.PlaceRelations.{crossed-joins, blocked-stuck}
 use Rattle.lt_checker.proofs.places.opened.Goals as goal
 

@@ -1,6 +1,6 @@
 use Rattle.std.proofs.Common.{◌<◌, ℕ, get_or, drop, vec_len, None}
 use Rattle.std.specs.Prelude.{All}
-use Rattle.lt_checker.specs.Tables.{IsEntry}
+use Rattle.lt_checker.specs.Prelude.{IsEntry}
 use Rattle.lt_checker.proofs.tables.table_of.Given as goal
 
 abbrev pub invariant-loop-index : goal.invariant-loop-index

@@ -1,5 +1,5 @@
 use Rattle.std.proofs.Common.{◌≡◌, map, take}
-use Rattle.lt_isa.specs.Start.{want_of}
+use Rattle.lt_isa.specs.Prelude.{want_of}
 use Rattle.lt_isa.proofs.objects.wants_of.Given as goal
 
 abbrev pub invariant-loop-symbol : goal.invariant-loop-symbol

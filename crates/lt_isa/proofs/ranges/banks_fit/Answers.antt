@@ -1,5 +1,5 @@
 use Rattle.std.proofs.Common.{[], arith, rules}
-use Rattle.lt_isa.specs.Ranges.{BankFits}
+use Rattle.lt_isa.specs.Prelude.{BankFits}
 use Rattle.gr_base.proofs.EachAfter.{EachAfter-at, EachAfter-from_below}
 use Rattle.lt_isa.proofs.ranges.banks_fit.Goals as goal
 

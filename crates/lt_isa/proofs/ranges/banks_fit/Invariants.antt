@@ -1,4 +1,4 @@
-use Rattle.lt_isa.specs.Ranges.{BankFits}
+use Rattle.lt_isa.specs.Prelude.{BankFits}
 use Rattle.gr_base.proofs.EachAfter.{EachBelow}
 use Rattle.lt_isa.proofs.ranges.banks_fit.Given as goal
 

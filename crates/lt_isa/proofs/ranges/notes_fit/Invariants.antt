@@ -1,4 +1,4 @@
-use Rattle.lt_isa.specs.Ranges.{NoteFits}
+use Rattle.lt_isa.specs.Prelude.{NoteFits}
 use Rattle.gr_base.proofs.EachAfter.{EachBelow}
 use Rattle.lt_isa.proofs.ranges.notes_fit.Given as goal
 

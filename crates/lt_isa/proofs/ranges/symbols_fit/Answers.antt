@@ -1,6 +1,6 @@
 use Rattle.std.proofs.Common.{◌≡◌, ◌+◌, take, refl, arith, rules}
 use Rattle.std.proofs.lemmas.Grind.{common_steps}
-use Rattle.lt_isa.specs.Ranges.{SymbolFits, total_length}
+use Rattle.lt_isa.specs.Prelude.{SymbolFits, total_length}
 use Rattle.gr_base.proofs.EachAfter.{EachAfter-read, EachBelow-more, EachAfter-from_below}
 use Rattle.lt_isa.proofs.ranges.symbols_fit.Goals as goal
 

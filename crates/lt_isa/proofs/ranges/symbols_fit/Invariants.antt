@@ -1,5 +1,5 @@
 use Rattle.std.proofs.Common.{◌≡◌, ◌≤◌, take}
-use Rattle.lt_isa.specs.Ranges.{SymbolFits, total_length}
+use Rattle.lt_isa.specs.Prelude.{SymbolFits, total_length}
 use Rattle.gr_base.proofs.EachAfter.{EachBelow}
 use Rattle.lt_isa.proofs.ranges.symbols_fit.Given as goal
 

@@ -1,14 +1,12 @@
 use Rattle.std.proofs.Common.{◌≡◌, ◌≤◌, ◌<◌, ◌+◌, ℕ, ℤ, List, [], ◌∷◌, ◌++◌, None, length, get_or, take, sym, ap, ◌∙◌, subst, arith, length-append}
 use Rattle.std.specs.Prelude.{IsTrue}
 use Rattle.std.proofs.lemmas.List.{length-take-le, take_all}
-use Rattle.lt_isa.specs.Object.{Parts}
-use Rattle.lt_isa.specs.Ranges.{IsInRange}
-use Rattle.lt_isa.specs.Start.{FitsObject}
-use Rattle.bus_arbiter.specs.Cores.{Core}
-use Rattle.path_oram.specs.Orams.{Oram}
+use Rattle.lt_isa.specs.Prelude.{Parts, IsInRange, FitsObject}
+use Rattle.bus_arbiter.specs.Prelude.{Core}
+use Rattle.path_oram.specs.Prelude.{Oram}
 use Rattle.rand_chacha.specs.ChaCha.{ChaCha}
-use Rattle.call_steps.specs.Beginning.{BankBegins, HasBegun}
-use Rattle.machine_verbs.specs.Sharing.{AllBegin}
+use Rattle.call_steps.specs.Prelude.{BankBegins, HasBegun}
+use Rattle.machine_verbs.specs.Prelude.{AllBegin}
 use Rattle.machine_verbs.proofs.SharedBus.{begin-more, fit-at, fit-count, start-cycle, start-place, take-more}
 use Rattle.machine_verbs.proofs.bus.bus_of.Goals as goal
 

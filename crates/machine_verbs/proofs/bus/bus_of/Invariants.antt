@@ -1,6 +1,6 @@
 use Rattle.std.proofs.Common.{◌≡◌, length, take}
 use Rattle.std.specs.Prelude.{IsTrue}
-use Rattle.machine_verbs.specs.Sharing.{AllBegin}
+use Rattle.machine_verbs.specs.Prelude.{AllBegin}
 use Rattle.machine_verbs.proofs.bus.bus_of.Given as goal
 
 abbrev pub invariant-entering : goal.invariant-entering

@@ -1,7 +1,6 @@
 use Rattle.std.proofs.Common.{◌≡◌, ◌+◌, ◌*◌, ◌++◌, ◌≤◌, length}
 use Rattle.std.specs.Option.{option_map}
-use Rattle.command_words.specs.Pairs.{in_pairs}
-use Rattle.command_words.specs.Options.{texts}
+use Rattle.command_words.specs.Prelude.{in_pairs, texts}
 use Rattle.machine_verbs.proofs.bus.pairs_in.Given as goal
 
 abbrev pub invariant-pairing : goal.invariant-pairing

@@ -1,7 +1,6 @@
 use Rattle.std.proofs.Common.{ap, subst}
 use Rattle.std.proofs.lemmas.Result.{err_from_is_err_and}
-use Rattle.machine_verbs.specs.Bus.{Read}
-use Rattle.machine_verbs.specs.Sharing.{AreRead}
+use Rattle.machine_verbs.specs.Prelude.{Read, AreRead}
 use Rattle.machine_verbs.proofs.Pairing.{core-found, core-off, core-unfound, core-unkept, core-unread, one-read, read-is}
 use Rattle.machine_verbs.proofs.bus.read_core.Goals as goal
 

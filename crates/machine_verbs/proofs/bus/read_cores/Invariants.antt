@@ -1,6 +1,6 @@
 use Rattle.std.proofs.Common.{◌≡◌, length}
-use Rattle.call_steps.specs.Reached.{stage}
-use Rattle.machine_verbs.specs.Sharing.{AreRead}
+use Rattle.call_steps.specs.Prelude.{stage}
+use Rattle.machine_verbs.specs.Prelude.{AreRead}
 use Rattle.machine_verbs.proofs.Pairing.{HasRead}
 use Rattle.machine_verbs.proofs.bus.read_cores.Given as goal
 

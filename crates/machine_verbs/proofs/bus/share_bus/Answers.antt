@@ -1,12 +1,9 @@
 use Rattle.std.proofs.Common.{◌≡◌, ℤ, List, length, sym, ap, ap₂, ◌∙◌, subst}
 use Rattle.std.proofs.lemmas.List.{length-map}
-use Rattle.lt_isa.specs.Object.{Parts}
-use Rattle.lt_isa.specs.Trace.{Stamped}
-use Rattle.bus_arbiter.specs.Laws.{traces_on}
-use Rattle.bus_arbiter.specs.Shares.{share_of}
+use Rattle.lt_isa.specs.Prelude.{Parts, Stamped}
+use Rattle.bus_arbiter.specs.Prelude.{traces_on, share_of}
 use Rattle.bus_arbiter.specs.declared.shares.Share.{Share}
-use Rattle.machine_verbs.specs.Bus.{Read}
-use Rattle.machine_verbs.specs.Sharing.{PutsShared}
+use Rattle.machine_verbs.specs.Prelude.{Read, PutsShared}
 use Rattle.machine_verbs.proofs.SharedBus.{begin-count, begin-traces}
 use Rattle.machine_verbs.proofs.bus.share_bus.Goals as goal
 

@@ -1,7 +1,7 @@
 use Rattle.std.proofs.Common.{rules, ◌≡◌, ◌++◌, ℕ, Err, subst}
 use Rattle.std.specs.Prelude.{codes, decimal}
-use Rattle.run_data.specs.Putting.{PutsText}
-use Rattle.call_steps.specs.Showing.{halt_text}
+use Rattle.run_data.specs.Prelude.{PutsText}
+use Rattle.call_steps.specs.Prelude.{halt_text}
 use Rattle.machine_verbs.proofs.BusWatches.{halt-some}
 use Rattle.machine_verbs.proofs.PutBehind.{puts-cut, puts-then}
 use Rattle.machine_verbs.proofs.bus_lines.put_core.Goals as goal

@@ -1,8 +1,7 @@
 use Rattle.std.proofs.Common.{rules, ◌≡◌, ◌++◌, ℕ, Err, subst}
 use Rattle.std.specs.Prelude.{codes, decimal}
-use Rattle.lt_isa.specs.Events.{observed_of}
-use Rattle.run_data.specs.Putting.{PutsText}
-use Rattle.run_data.specs.TraceText.{event_line}
+use Rattle.lt_isa.specs.Prelude.{observed_of}
+use Rattle.run_data.specs.Prelude.{PutsText, event_line}
 use Rattle.machine_verbs.proofs.BusWatches.{line-some}
 use Rattle.machine_verbs.proofs.PutBehind.{puts-cut, puts-then}
 use Rattle.machine_verbs.proofs.bus_lines.put_transfer.Goals as goal

@@ -1,6 +1,6 @@
 use Rattle.std.proofs.Common.{rules}
-use Rattle.bus_arbiter.specs.Cores.{traces_to}
-use Rattle.machine_verbs.specs.Sharing.{halts_of}
+use Rattle.bus_arbiter.specs.Prelude.{traces_to}
+use Rattle.machine_verbs.specs.Prelude.{halts_of}
 use Rattle.machine_verbs.proofs.SharedBus.{left-halts, shared-cut, shared-put}
 use Rattle.machine_verbs.proofs.bus_run.put_bus.Goals as goal
 

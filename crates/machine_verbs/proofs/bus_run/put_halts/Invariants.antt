@@ -1,8 +1,7 @@
 use Rattle.std.proofs.Common.{◌≡◌, take}
-use Rattle.gr_base.specs.Added.{Adds}
-use Rattle.machine_verbs.specs.Bus.{all_halted}
-use Rattle.machine_verbs.specs.Sharing.{halts_of}
-use Rattle.call_steps.specs.Showing.{core_lines}
+use Rattle.gr_base.specs.Prelude.{Adds}
+use Rattle.machine_verbs.specs.Prelude.{all_halted, halts_of}
+use Rattle.call_steps.specs.Prelude.{core_lines}
 use Rattle.machine_verbs.proofs.bus_run.put_halts.Given as goal
 
 abbrev pub invariant-ending : goal.invariant-ending

@@ -1,9 +1,8 @@
 use Rattle.std.proofs.Common.{List, []}
-use Rattle.lt_isa.specs.Trace.{Stamped}
-use Rattle.bus_arbiter.specs.Cores.{traces_to}
-use Rattle.bus_arbiter.specs.Transfers.{IsJoined, joined_of}
+use Rattle.lt_isa.specs.Prelude.{Stamped}
+use Rattle.bus_arbiter.specs.Prelude.{traces_to, IsJoined, joined_of}
 use Rattle.bus_arbiter.proofs.CoresJoined.{cores-joined}
-use Rattle.call_steps.specs.Showing.{transfer_lines}
+use Rattle.call_steps.specs.Prelude.{transfer_lines}
 use Rattle.machine_verbs.proofs.BusWatches.{transfers_cut}
 use Rattle.machine_verbs.proofs.PutLines.{lines_put}
 use Rattle.machine_verbs.proofs.bus_run.run_watched.Goals as goal

@@ -1,10 +1,10 @@
 use Rattle.std.proofs.Common.{◌≡◌, ◌+◌, ◌-◌, [], ◌∷◌, ◌++◌, length, refl, sym, ap, ◌∙◌, subst, arith, length-append}
 use Rattle.std.specs.Prelude.{codes, flat_map}
-use Rattle.gr_base.specs.Added.{Adds}
+use Rattle.gr_base.specs.Prelude.{Adds}
 use Rattle.gr_base.proofs.Added.{Adds-then, AddsLess-more}
-use Rattle.run_data.specs.PathText.{level_text, levels_head, levels_line}
+use Rattle.run_data.specs.Prelude.{level_text, levels_head, levels_line}
 use Rattle.run_data.proofs.Pieces.{puts_last}
-use Rattle.path_oram.specs.Settles.{StandsOn}
+use Rattle.path_oram.specs.Prelude.{StandsOn}
 use Rattle.path_oram.proofs.Existing.{all_levels, one_level}
 use Rattle.machine_verbs.proofs.LevelLines.{cut-so, level-some, line-parts, one-more}
 use Rattle.machine_verbs.proofs.levels.put_bank.Goals as goal

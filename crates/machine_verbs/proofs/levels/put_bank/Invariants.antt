@@ -1,7 +1,7 @@
 use Rattle.std.proofs.Common.{◌≡◌, ◌++◌, List, ℕ, Option, length}
 use Rattle.std.specs.Prelude.{flat_map}
-use Rattle.gr_base.specs.Added.{Adds}
-use Rattle.run_data.specs.PathText.{level_text, levels_head}
+use Rattle.gr_base.specs.Prelude.{Adds}
+use Rattle.run_data.specs.Prelude.{level_text, levels_head}
 use Rattle.path_oram.proofs.Existing.{FirstLevels}
 use Rattle.machine_verbs.proofs.levels.put_bank.Given as goal
 

@@ -1,9 +1,9 @@
 use Rattle.std.proofs.Common.{◌≡◌, ◌+◌, ◌-◌, [], ◌∷◌, ◌++◌, length, sym, ◌∙◌, subst, arith, length-append}
 use Rattle.std.proofs.lemmas.List.{append-nil}
-use Rattle.gr_base.specs.Added.{Adds}
+use Rattle.gr_base.specs.Prelude.{Adds}
 use Rattle.gr_base.proofs.Added.{Adds-then}
-use Rattle.run_data.specs.PathText.{levels_behind, levels_line}
-use Rattle.call_steps.specs.Levels.{StandNow}
+use Rattle.run_data.specs.Prelude.{levels_behind, levels_line}
+use Rattle.call_steps.specs.Prelude.{StandNow}
 use Rattle.machine_verbs.proofs.LevelLines.{behind-one, cut-so, line-some, stands}
 use Rattle.machine_verbs.proofs.Tracing.{one-bank}
 use Rattle.machine_verbs.proofs.levels.put_levels.Goals as goal

@@ -1,7 +1,7 @@
 use Rattle.std.proofs.Common.{◌≡◌, ◌-◌, List, [], ℕ, Option, length}
-use Rattle.gr_base.specs.Added.{Adds}
-use Rattle.run_data.specs.PathText.{levels_behind}
-use Rattle.call_steps.specs.Levels.{FirstBanks, StandNow}
+use Rattle.gr_base.specs.Prelude.{Adds}
+use Rattle.run_data.specs.Prelude.{levels_behind}
+use Rattle.call_steps.specs.Prelude.{FirstBanks, StandNow}
 use Rattle.machine_verbs.proofs.levels.put_levels.Given as goal
 
 abbrev pub invariant-loop-bank : goal.invariant-loop-bank

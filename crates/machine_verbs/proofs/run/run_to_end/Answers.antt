@@ -1,12 +1,8 @@
 use Rattle.std.proofs.Common.{◌≡◌, sym, ap₂, ◌∙◌, subst}
-use Rattle.lt_isa.specs.Machine.{State}
-use Rattle.lt_isa.specs.Outputs.{outputs}
-use Rattle.lt_isa.specs.Start.{FitsObject, final, start_state}
-use Rattle.lt_isa.specs.Trace.{trace_from, final_from}
+use Rattle.lt_isa.specs.Prelude.{State, outputs, FitsObject, final, start_state, trace_from, final_from, Parts}
 use Rattle.lt_isa.proofs.Variables.{final_outputs-fit}
 use Rattle.processor.specs.declared.ends.End.{End}
-use Rattle.processor.specs.Ends.{EndsAs, NoHalt}
-use Rattle.lt_isa.specs.Object.{Parts}
+use Rattle.processor.specs.Prelude.{EndsAs, NoHalt}
 use Rattle.machine_verbs.proofs.run.run_to_end.Goals as goal
 
 pub outputs_of-requires-clause-fits : goal.outputs_of-requires-clause-fits

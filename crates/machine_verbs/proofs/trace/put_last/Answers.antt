@@ -1,9 +1,8 @@
 use Rattle.std.proofs.Common.{rules, ◌≡◌, true, false, [], inl, inr, refl, sym, ◌∙◌, subst, arith}
 use Rattle.std.proofs.lemmas.Bool.{false≢true}
-use Rattle.gr_base.specs.Counts.{Rose}
-use Rattle.gr_base.specs.Added.{Adds, AddsLess}
+use Rattle.gr_base.specs.Prelude.{Rose, Adds, AddsLess}
 use Rattle.gr_base.proofs.Added.{Adds-then, AddsLess-then}
-use Rattle.run_data.specs.PathText.{levels_behind}
+use Rattle.run_data.specs.Prelude.{levels_behind}
 use Rattle.run_data.proofs.PathTexts.{behind-text}
 use Rattle.machine_verbs.proofs.LevelLines.{lines-some}
 use Rattle.machine_verbs.proofs.trace.put_last.Goals as goal

@@ -1,8 +1,8 @@
 use Rattle.std.proofs.Common.{Some, None, refl, subst}
-use Rattle.lt_isa.specs.Trace.{trace_from}
-use Rattle.processor.specs.Watching.{run_shown}
+use Rattle.lt_isa.specs.Prelude.{trace_from}
+use Rattle.processor.specs.Prelude.{run_shown}
 use Rattle.processor.specs.declared.ends.End.{End}
-use Rattle.machine_verbs.specs.Watched.{PutsShown, kept}
+use Rattle.machine_verbs.specs.Prelude.{PutsShown, kept}
 use Rattle.machine_verbs.proofs.LinesAlone.{ended, cut}
 use Rattle.machine_verbs.proofs.trace.put_lines.Goals as goal
 

@@ -1,8 +1,8 @@
 use Rattle.std.proofs.Common.{Some, None, refl, subst, arith}
-use Rattle.lt_isa.specs.Trace.{trace_from}
-use Rattle.processor.specs.Watching.{run_shown}
+use Rattle.lt_isa.specs.Prelude.{trace_from}
+use Rattle.processor.specs.Prelude.{run_shown}
 use Rattle.processor.specs.declared.ends.End.{End}
-use Rattle.machine_verbs.specs.Watched.{PutsShown, kept}
+use Rattle.machine_verbs.specs.Prelude.{PutsShown, kept}
 use Rattle.machine_verbs.proofs.Shown.{shows}
 use Rattle.machine_verbs.proofs.Tracing.{ended-put, cut-put}
 use Rattle.machine_verbs.proofs.trace.put_trace.Goals as goal

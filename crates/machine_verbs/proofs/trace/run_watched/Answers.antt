@@ -1,6 +1,6 @@
 use Rattle.std.proofs.Common.{List, []}
-use Rattle.processor.specs.Watching.{WatcherTold, run_shown}
-use Rattle.machine_verbs.specs.Watched.{kept}
+use Rattle.processor.specs.Prelude.{WatcherTold, run_shown}
+use Rattle.machine_verbs.specs.Prelude.{kept}
 use Rattle.machine_verbs.proofs.Watches.{events_put, events_cut}
 use Rattle.machine_verbs.proofs.trace.run_watched.Goals as goal
 

@@ -1,18 +1,10 @@
 use Rattle.std.proofs.Common.{rules, ◌≡◌, [], true, false, sym, subst}
 use Rattle.std.proofs.lemmas.Result.{IfOk-weaker}
-use Rattle.lt_isa.specs.Machine.{State}
-use Rattle.lt_isa.specs.Object.{Parts}
-use Rattle.lt_isa.specs.Start.{start_state}
-use Rattle.lt_isa.specs.Trace.{trace_from}
-use Rattle.processor.specs.Watching.{run_shown}
+use Rattle.lt_isa.specs.Prelude.{State, Parts, start_state, trace_from}
+use Rattle.processor.specs.Prelude.{run_shown}
 use Rattle.processor.proofs.TellingPaths.{events_in-with_paths}
-use Rattle.call_steps.specs.Levels.{AreBehind, MayRun}
-use Rattle.call_steps.specs.Reached.{ExplainsRest}
-use Rattle.call_steps.specs.RecursivePaths.{IsShownInTrees}
-use Rattle.call_steps.specs.Showing.{run_seen}
-use Rattle.machine_verbs.specs.Trace.{traces_on}
-use Rattle.machine_verbs.specs.TracedInTrees.{TracedInTrees}
-use Rattle.machine_verbs.specs.Watched.{PutsTrace, kept}
+use Rattle.call_steps.specs.Prelude.{AreBehind, MayRun, ExplainsRest, IsShownInTrees, run_seen}
+use Rattle.machine_verbs.specs.Prelude.{traces_on, TracedInTrees, PutsTrace, kept}
 use Rattle.machine_verbs.proofs.TraceTexts.{traced-said}
 use Rattle.machine_verbs.proofs.Shown.{is-shown, may-run, shows}
 use Rattle.machine_verbs.proofs.trace.trace_given.Goals as goal

@@ -1,11 +1,8 @@
 use Rattle.std.proofs.Common.{◌≡◌, [], subst}
-use Rattle.lt_isa.specs.Object.{Parts}
-use Rattle.lt_isa.specs.Machine.{State}
-use Rattle.lt_isa.specs.Start.{start_state}
-use Rattle.lt_isa.specs.Trace.{trace_from}
-use Rattle.processor.specs.Watching.{run_shown}
+use Rattle.lt_isa.specs.Prelude.{Parts, State, start_state, trace_from}
+use Rattle.processor.specs.Prelude.{run_shown}
 use Rattle.processor.proofs.TellingPaths.{events_in-with_paths}
-use Rattle.machine_verbs.specs.Watched.{PutsTrace, kept}
+use Rattle.machine_verbs.specs.Prelude.{PutsTrace, kept}
 use Rattle.machine_verbs.proofs.ShownInTrees.{is-shown, shows}
 use Rattle.machine_verbs.proofs.trace.trace_in_trees.Goals as goal
 

@@ -1,12 +1,9 @@
 use Rattle.std.proofs.Common.{rules, ◌≡◌, ◌≢◌, [], false, ap, subst}
-use Rattle.gr_outside.specs.Sink.{SinkSeen}
-use Rattle.lt_isa.specs.Object.{Parts}
-use Rattle.lt_isa.specs.Machine.{State}
-use Rattle.lt_isa.specs.Start.{start_state}
-use Rattle.lt_isa.specs.Trace.{trace_from}
-use Rattle.processor.specs.Watching.{run_shown}
+use Rattle.gr_outside.specs.Prelude.{SinkSeen}
+use Rattle.lt_isa.specs.Prelude.{Parts, State, start_state, trace_from}
+use Rattle.processor.specs.Prelude.{run_shown}
 use Rattle.processor.proofs.TellingPaths.{events_in-with_paths}
-use Rattle.machine_verbs.specs.Watched.{PutsTrace, kept}
+use Rattle.machine_verbs.specs.Prelude.{PutsTrace, kept}
 use Rattle.machine_verbs.proofs.Shown.{shows}
 use Rattle.machine_verbs.proofs.TraceTexts.{traced-text}
 use Rattle.machine_verbs.proofs.trace.trace_text.Goals as goal

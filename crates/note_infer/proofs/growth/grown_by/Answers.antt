@@ -1,12 +1,10 @@
 -- One more branch joins, or none may.
 use Rattle.std.proofs.Common.{◌≡◌, ℕ, List, [], ◌∷◌, Option, Some, None, sym, subst, arith}
-use Rattle.note_infer.specs.Crossings.{Crossings}
-use Rattle.trace_patterns.specs.Known.{Known}
-use Rattle.note_infer.specs.Growth.{GrowthHolds, IsNextToJoin, IsLowestToJoin}
-use Rattle.note_infer.specs.Kept.{ListsJoiners, ListsRest}
+use Rattle.note_infer.specs.Prelude.{Crossings, GrowthHolds, IsNextToJoin, IsLowestToJoin, ListsJoiners, ListsRest}
+use Rattle.trace_patterns.specs.Prelude.{Known}
 use Rattle.note_infer.proofs.Growing.{growth_begun, growth_more, growth_ended, left_less, join_apart}
-use Rattle.note_infer.proofs.growth.grown_by.Goals as goal
 use Rattle.note_infer.proofs.growth.grown_by.Goals.{In-Ok-Some}
+use Rattle.note_infer.proofs.growth.grown_by.Goals as goal
 
 pub growing-init : goal.growing-init
 growing-init c = record {

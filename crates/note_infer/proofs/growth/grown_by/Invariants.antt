@@ -1,8 +1,7 @@
 -- The branches so far grew, the states are the least under them, and those are listed that may join; fewer places are
 -- left with each that joins.
 use Rattle.std.proofs.Common.{[]}
-use Rattle.note_infer.specs.Growth.{GrowthHolds, places_left}
-use Rattle.note_infer.specs.Kept.{ListsJoiners}
+use Rattle.note_infer.specs.Prelude.{GrowthHolds, places_left, ListsJoiners}
 use Rattle.note_infer.proofs.growth.grown_by.Given as goal
 
 abbrev pub invariant-growing : goal.invariant-growing

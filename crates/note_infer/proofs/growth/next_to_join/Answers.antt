@@ -1,6 +1,6 @@
 -- The lowest of those that are listed is taken.
 use Rattle.std.proofs.Common.{subst}
-use Rattle.note_infer.specs.Growth.{AnswersJoin}
+use Rattle.note_infer.specs.Prelude.{AnswersJoin}
 use Rattle.note_infer.proofs.JoinersListed.{listed_fewer, taken_shorter, lowest_found, others_listed, none_listed}
 use Rattle.note_infer.proofs.growth.next_to_join.Goals as goal
 

@@ -1,6 +1,6 @@
 -- The branches that may join are listed; each turn takes one.
 use Rattle.std.proofs.Common.{[], length}
-use Rattle.note_infer.specs.Kept.{ListsJoiners}
+use Rattle.note_infer.specs.Prelude.{ListsJoiners}
 use Rattle.note_infer.proofs.growth.next_to_join.Given as goal
 
 abbrev pub invariant-taking : goal.invariant-taking

@@ -1,6 +1,6 @@
 -- The notes that were found are the least.
 use Rattle.std.proofs.Common.{◌∙◌, sym, subst, arith}
-use Rattle.trace_patterns.specs.Accepts.{Accepts}
+use Rattle.trace_patterns.specs.Prelude.{Accepts}
 use Rattle.note_infer.proofs.Inferring.{least_found, found_in_range, why_refused, none_would}
 use Rattle.note_infer.proofs.inference.accepted_with.Goals as goal
 

@@ -1,10 +1,7 @@
 -- A place where nothing is known is dead.
 use Rattle.std.proofs.Common.{List, [], Option, None, subst}
-use Rattle.trace_patterns.specs.Known.{Known}
-use Rattle.note_infer.specs.Growth.{HasLeast}
-use Rattle.note_infer.specs.Crossings.{Crossings}
-use Rattle.note_infer.specs.Kept.{ListsJoiners}
-use Rattle.note_infer.specs.Noting.{NothingIsKnown, IsFirstUnknown}
+use Rattle.trace_patterns.specs.Prelude.{Known}
+use Rattle.note_infer.specs.Prelude.{HasLeast, Crossings, ListsJoiners, NothingIsKnown, IsFirstUnknown}
 use Rattle.note_infer.proofs.Inferring.{dead_found, all_reached}
 use Rattle.note_infer.proofs.inference.found_notes.Goals as goal
 

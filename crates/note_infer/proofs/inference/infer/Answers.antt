@@ -1,8 +1,7 @@
 -- The object without notes is in range, and what is wrong with it is wrong with the object.
 use Rattle.std.proofs.Common.{◌∙◌, ap, subst}
-use Rattle.lt_isa.specs.Object.{Parts}
-use Rattle.note_infer.specs.LeastNotes.{with_notes}
-use Rattle.note_infer.specs.Noting.{WhyNoNotes}
+use Rattle.lt_isa.specs.Prelude.{Parts}
+use Rattle.note_infer.specs.Prelude.{with_notes, WhyNoNotes}
 use Rattle.note_infer.proofs.Inferring.{bare_in_range, why_whole}
 use Rattle.note_infer.proofs.inference.infer.Goals as goal
 

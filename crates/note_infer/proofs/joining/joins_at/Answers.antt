@@ -1,13 +1,11 @@
 -- A branch whose region isn't shaped doesn't join, and one whose region is shaped joins.
-use Rattle.std.proofs.Common.{ℕ, ℤ, subst}
+use Rattle.std.proofs.Common.{ℕ, ℤ, subst, length}
 use Rattle.lt_isa.proofs.Offsets.{handed_on}
-use Rattle.lt_isa.specs.Ranges.{InstrFits, IsOffset}
+use Rattle.lt_isa.specs.Prelude.{InstrFits, IsOffset}
 use Rattle.lt_isa.proofs.Steps.{instruction-fits}
 use Rattle.lt_isa.specs.declared.instructions.Instr.TheVariants.{Br}
-use Rattle.trace_patterns.specs.Known.{Known}
-use Rattle.trace_patterns.specs.Carries.{JoinsIn}
-use Rattle.std.proofs.Common.{length}
-use Rattle.region_walk.specs.Carrying.{IsCarriedTo}
+use Rattle.trace_patterns.specs.Prelude.{Known, JoinsIn}
+use Rattle.region_walk.specs.Prelude.{IsCarriedTo}
 use Rattle.note_infer.proofs.Growing.{unshaped_stays, carried_joins}
 use Rattle.note_infer.proofs.joining.joins_at.Goals as goal
 

@@ -1,5 +1,5 @@
 -- The places wait that lead to the places so far.
-use Rattle.note_infer.specs.Kept.{AwaitsBelow}
+use Rattle.note_infer.specs.Prelude.{AwaitsBelow}
 use Rattle.note_infer.proofs.kept.awaited.Given as goal
 
 abbrev pub invariant-loop-inner : goal.invariant-loop-inner

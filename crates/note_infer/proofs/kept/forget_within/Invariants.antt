@@ -1,5 +1,5 @@
 -- What was known at the places so far is forgotten.
-use Rattle.note_infer.specs.Kept.{IsWithout}
+use Rattle.note_infer.specs.Prelude.{IsWithout}
 use Rattle.note_infer.proofs.kept.forget_within.Given as goal
 
 abbrev pub invariant-loop-inner : goal.invariant-loop-inner

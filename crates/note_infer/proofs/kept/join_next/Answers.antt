@@ -1,9 +1,7 @@
 -- The states that are kept are under way.
 use Rattle.std.proofs.Common.{◌≡◌, ◌∷◌, [], List, Option, IfOk, sym, subst, arith}
-use Rattle.trace_patterns.specs.Known.{Known}
-use Rattle.note_infer.specs.Crossings.{Crossings}
-use Rattle.note_infer.specs.Brings.{LoopHolds}
-use Rattle.note_infer.specs.Kept.{IsApart, ListsJoiners}
+use Rattle.trace_patterns.specs.Prelude.{Known}
+use Rattle.note_infer.specs.Prelude.{Crossings, LoopHolds, IsApart, ListsJoiners}
 use Rattle.note_infer.proofs.RegionWays.{joins_within}
 use Rattle.note_infer.proofs.KeptStates.{kept_begins, kept_listed}
 use Rattle.note_infer.proofs.kept.join_next.Goals as goal

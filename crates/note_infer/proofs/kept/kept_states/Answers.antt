@@ -1,8 +1,7 @@
 -- The search continues from the kept states.
 use Rattle.std.proofs.Common.{[], List, Option, sym, subst, arith}
-use Rattle.trace_patterns.specs.Known.{Known}
-use Rattle.note_infer.specs.Growth.{HasLeast}
-use Rattle.note_infer.specs.Kept.{ListsJoiners}
+use Rattle.trace_patterns.specs.Prelude.{Known}
+use Rattle.note_infer.specs.Prelude.{HasLeast, ListsJoiners}
 use Rattle.note_infer.proofs.Growing.{least_ended, kept_whole}
 use Rattle.note_infer.proofs.kept.kept_states.Goals as goal
 

@@ -1,12 +1,10 @@
 -- The target is brought what is known at the jump.
-use Rattle.std.proofs.Common.{ℕ, sym, subst, ◌∙◌}
-use Rattle.std.proofs.Common.{rules, ◌≡◌, to_z, of_z, w32, ap}
+use Rattle.std.proofs.Common.{ℕ, sym, subst, ◌∙◌, rules, ◌≡◌, to_z, of_z, w32, ap}
 use Rattle.std.proofs.lemmas.Int.{to_z-of_z}
 use Rattle.std.proofs.lemmas.Result.{on_ok_weaker}
-use Rattle.lt_isa.specs.Step.{target_of}
-use Rattle.trace_patterns.specs.Known.{Known}
-use Rattle.note_infer.specs.Least.{IsFull}
-use Rattle.note_infer.specs.Brings.{BringsInside}
+use Rattle.lt_isa.specs.Prelude.{target_of}
+use Rattle.trace_patterns.specs.Prelude.{Known}
+use Rattle.note_infer.specs.Prelude.{IsFull, BringsInside}
 use Rattle.note_infer.proofs.Looking.{looks_jump}
 use Rattle.note_infer.proofs.looks.look_jump.Goals as goal
 

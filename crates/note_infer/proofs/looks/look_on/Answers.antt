@@ -1,9 +1,8 @@
 -- What is known after the instruction is brought to the next place.
 use Rattle.std.proofs.Common.{◌+◌, sym, subst}
 use Rattle.std.proofs.lemmas.Result.{on_ok_weaker}
-use Rattle.trace_patterns.specs.Known.{Known}
-use Rattle.note_infer.specs.Least.{IsFull}
-use Rattle.note_infer.specs.Brings.{BringsInside}
+use Rattle.trace_patterns.specs.Prelude.{Known}
+use Rattle.note_infer.specs.Prelude.{IsFull, BringsInside}
 use Rattle.note_infer.proofs.Looking.{looks_on, full_behind}
 use Rattle.note_infer.proofs.looks.look_on.Goals as goal
 

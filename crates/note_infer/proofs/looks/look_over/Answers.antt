@@ -2,13 +2,12 @@
 use Rattle.std.proofs.Common.{ℕ, ℤ, subst}
 use Rattle.std.proofs.lemmas.Result.{on_ok_weaker}
 use Rattle.lt_isa.proofs.Offsets.{handed_on}
-use Rattle.trace_patterns.specs.Known.{Known}
-use Rattle.trace_patterns.specs.Carries.{JoinsIn}
-use Rattle.region_walk.specs.Carrying.{IsCarriedTo}
-use Rattle.note_infer.specs.Brings.{BringsInside}
+use Rattle.trace_patterns.specs.Prelude.{Known, JoinsIn}
+use Rattle.region_walk.specs.Prelude.{IsCarriedTo}
+use Rattle.note_infer.specs.Prelude.{BringsInside}
 use Rattle.note_infer.proofs.Looking.{looks_over_at, looks_nowhere_at, full_joined}
-use Rattle.note_infer.proofs.looks.look_over.Goals as goal
 use Rattle.note_infer.proofs.looks.look_over.Goals.{In-Joins}
+use Rattle.note_infer.proofs.looks.look_over.Goals as goal
 
 carried : (c : In-Joins) → IsCarriedTo c.args.spot.object.now c.args.spot.place c.args.offset c.args.spot.known.now
     c.in-Joins.join c.in-Joins.next

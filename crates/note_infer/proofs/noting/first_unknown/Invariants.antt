@@ -1,6 +1,6 @@
 -- Something is known at the places so far.
 use Rattle.std.proofs.Common.{◌≡◌, ℕ, ◌<◌, get_or, Some, None}
-use Rattle.trace_patterns.specs.Known.{Known}
+use Rattle.trace_patterns.specs.Prelude.{Known}
 use Rattle.note_infer.proofs.noting.first_unknown.Given as goal
 
 abbrev pub invariant-loop-place : goal.invariant-loop-place

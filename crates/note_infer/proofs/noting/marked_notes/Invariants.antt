@@ -1,6 +1,5 @@
 -- The notes of the places so far.
-use Rattle.note_infer.specs.Brings.{at_places}
-use Rattle.note_infer.specs.Noting.{NotesBelow}
+use Rattle.note_infer.specs.Prelude.{at_places, NotesBelow}
 use Rattle.note_infer.proofs.noting.marked_notes.Given as goal
 
 abbrev pub invariant-loop-place : goal.invariant-loop-place

@@ -1,6 +1,6 @@
 -- One more note.
 use Rattle.std.proofs.Common.{◌<◌, ◌^◌}
-use Rattle.note_infer.specs.Brings.{at_places}
+use Rattle.note_infer.specs.Prelude.{at_places}
 use Rattle.note_infer.proofs.Noted.{notes_push}
 use Rattle.note_infer.proofs.noting.note_more.Goals as goal
 

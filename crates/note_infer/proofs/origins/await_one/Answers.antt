@@ -1,6 +1,7 @@
 -- A place within the region doesn't wait, and another one does.
 use Rattle.std.proofs.Common.{sym, subst}
-use Rattle.note_infer.specs.Kept.{AwaitsOne, Within, Outside}
+use Rattle.note_infer.specs.Prelude.{AwaitsOne, Within}
+use Rattle.note_infer.specs.Kept.{Outside}
 use Rattle.note_infer.proofs.origins.await_one.Goals as goal
 
 pub returns-then-origin-join : goal.returns-then-origin-join

@@ -1,8 +1,7 @@
 -- The list is followed to its end, and its places outside the region wait.
 use Rattle.std.proofs.Common.{ℕ, ◌-◌, ◌<◌, ◌≤◌, ◌⊎◌, inl, inr, sym, subst, ⊎_elim, arith, length, get_or}
 use Rattle.std.proofs.lemmas.List.{get_or_read_under}
-use Rattle.note_infer.specs.Brings.{Waits}
-use Rattle.note_infer.specs.Kept.{IsLinked, IsFollowed}
+use Rattle.note_infer.specs.Prelude.{Waits, IsLinked, IsFollowed}
 use Rattle.note_infer.proofs.OriginTables.{followed_next, followed_all, awaits_one}
 use Rattle.note_infer.proofs.origins.await_origins.Goals as goal
 

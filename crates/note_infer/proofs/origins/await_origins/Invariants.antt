@@ -1,7 +1,6 @@
 -- Of the places seen so far those outside the region wait.
 use Rattle.std.proofs.Common.{ℕ, ◌<◌, ◌≤◌, ◌⊎◌, length, get_or}
-use Rattle.note_infer.specs.Brings.{Waits}
-use Rattle.note_infer.specs.Kept.{IsFollowed}
+use Rattle.note_infer.specs.Prelude.{Waits, IsFollowed}
 use Rattle.note_infer.proofs.origins.await_origins.Given as goal
 
 abbrev pub invariant-following : goal.invariant-following

@@ -1,7 +1,7 @@
 -- The list is followed to its end.
 use Rattle.std.proofs.Common.{◌≡◌, ℕ, ◌-◌, ◌<◌, ◌≤◌, true, false, inl, sym, subst, arith, get_or}
 use Rattle.std.proofs.lemmas.List.{get_or_read_under}
-use Rattle.note_infer.specs.Kept.{IsLinked, IsFollowed}
+use Rattle.note_infer.specs.Prelude.{IsLinked, IsFollowed}
 use Rattle.note_infer.proofs.OriginTables.{followed_next, followed_all}
 use Rattle.note_infer.proofs.origins.is_entered.Goals as goal
 

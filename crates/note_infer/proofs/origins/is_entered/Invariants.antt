@@ -1,6 +1,6 @@
 -- The places seen so far are in the region, before the place.
 use Rattle.std.proofs.Common.{◌<◌, ◌≤◌, length, get_or}
-use Rattle.note_infer.specs.Kept.{IsFollowed}
+use Rattle.note_infer.specs.Prelude.{IsFollowed}
 use Rattle.note_infer.proofs.origins.is_entered.Given as goal
 
 abbrev pub invariant-following : goal.invariant-following

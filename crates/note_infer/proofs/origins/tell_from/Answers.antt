@@ -1,11 +1,10 @@
 -- The places that one instruction lists.
 use Rattle.std.proofs.Common.{◌∙◌, ℕ, length, Some, ap, subst}
 use Rattle.lt_isa.proofs.Offsets.{handed_on}
-use Rattle.lt_isa.specs.Ranges.{InstrFits, IsOffset}
-use Rattle.lt_isa.specs.Step.{target_of}
+use Rattle.lt_isa.specs.Prelude.{InstrFits, IsOffset, target_of}
 use Rattle.lt_isa.specs.declared.instructions.Instr.TheVariants.{Jmp, Br}
 use Rattle.lt_isa.proofs.Steps.{instruction-fits}
-use Rattle.note_infer.specs.Kept.{TellsOne}
+use Rattle.note_infer.specs.Prelude.{TellsOne}
 use Rattle.note_infer.proofs.Looking.{br_not, jmp_not}
 use Rattle.note_infer.proofs.OriginTables.{origins_told, origins_none, other_none, halt_none, jump_only, branch_only}
 use Rattle.note_infer.proofs.origins.tell_from.Goals as goal

@@ -1,9 +1,8 @@
 -- The search begins where only the start is known.
 use Rattle.std.proofs.Common.{◌≡◌, ◌<◌, List, length, set, [], Option, Some, sym, subst, ap, ◌∙◌, arith}
 use Rattle.lt_isa.specs.declared.instructions.Instr.{Instr}
-use Rattle.trace_patterns.specs.Known.{Known}
-use Rattle.note_infer.specs.Growth.{HasLeast}
-use Rattle.note_infer.specs.Kept.{ListsJoiners}
+use Rattle.trace_patterns.specs.Prelude.{Known}
+use Rattle.note_infer.specs.Prelude.{HasLeast, ListsJoiners}
 use Rattle.note_infer.proofs.JoinersListed.{listed_begun}
 use Rattle.note_infer.proofs.Turns.{loop_begun}
 use Rattle.note_infer.proofs.Growing.{least_ended, kept_whole}

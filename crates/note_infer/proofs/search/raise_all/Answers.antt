@@ -1,7 +1,6 @@
 -- One turn of the loop.
 use Rattle.std.proofs.Common.{ℕ, List, subst}
-use Rattle.note_infer.specs.Brings.{LoopHolds}
-use Rattle.note_infer.specs.Kept.{ListsJoiners}
+use Rattle.note_infer.specs.Prelude.{LoopHolds, ListsJoiners}
 use Rattle.note_infer.proofs.Turns.{loop_turn, loop_place}
 use Rattle.note_infer.proofs.JoinersListed.{listed_turn}
 use Rattle.note_infer.proofs.search.raise_all.Goals as goal

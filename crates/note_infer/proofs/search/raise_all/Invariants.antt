@@ -1,6 +1,5 @@
 -- The states are under way, and the branches that may join are listed or wait; each turn has less work left.
-use Rattle.note_infer.specs.Brings.{LoopHolds, work_left}
-use Rattle.note_infer.specs.Kept.{ListsJoiners}
+use Rattle.note_infer.specs.Prelude.{LoopHolds, work_left, ListsJoiners}
 use Rattle.note_infer.proofs.search.raise_all.Given as goal
 
 abbrev pub invariant-looking : goal.invariant-looking

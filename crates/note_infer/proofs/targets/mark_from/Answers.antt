@@ -1,12 +1,10 @@
 -- The targets of a jump, and of a branch that isn't crossed.
 use Rattle.std.proofs.Common.{◌≡◌, ◌∙◌, ℕ, length, false, Some, sym, ap, subst}
 use Rattle.lt_isa.proofs.Offsets.{handed_on}
-use Rattle.lt_isa.specs.Ranges.{InstrFits, IsOffset}
-use Rattle.lt_isa.specs.Step.{target_of}
+use Rattle.lt_isa.specs.Prelude.{InstrFits, IsOffset, target_of}
 use Rattle.lt_isa.specs.declared.instructions.Instr.TheVariants.{Jmp, Br}
 use Rattle.lt_isa.proofs.Steps.{instruction-fits}
-use Rattle.note_infer.specs.Ways.{is_crossed}
-use Rattle.note_infer.specs.Noting.{Marks}
+use Rattle.note_infer.specs.Prelude.{is_crossed, Marks}
 use Rattle.note_infer.proofs.Marking.{marks_jumps, marks_branches}
 use Rattle.note_infer.proofs.targets.mark_from.Goals as goal
 

@@ -1,6 +1,6 @@
 -- The targets of a place that is reached are marked too.
 use Rattle.std.proofs.Common.{◌∙◌, get_or, None, sym}
-use Rattle.note_infer.specs.Brings.{at_places}
+use Rattle.note_infer.specs.Prelude.{at_places}
 use Rattle.note_infer.proofs.Noted.{known_if}
 use Rattle.note_infer.proofs.Marking.{marks_more}
 use Rattle.note_infer.proofs.targets.mark_place.Goals as goal

@@ -1,6 +1,5 @@
 -- The targets of the places so far are marked.
-use Rattle.note_infer.specs.Brings.{at_places}
-use Rattle.note_infer.specs.Noting.{MarksBelow}
+use Rattle.note_infer.specs.Prelude.{at_places, MarksBelow}
 use Rattle.note_infer.proofs.targets.marked_targets.Given as goal
 
 abbrev pub invariant-loop-place : goal.invariant-loop-place

@@ -1,5 +1,5 @@
 use Rattle.std.proofs.Common.{◌≡◌, ◌++◌, take, flat_map}
-use Rattle.object_file.specs.Spelling.{bank}
+use Rattle.object_file.specs.Prelude.{bank}
 use Rattle.object_file.proofs.encoding.put_banks.Given as goal
 
 abbrev pub invariant-loop-bank : goal.invariant-loop-bank

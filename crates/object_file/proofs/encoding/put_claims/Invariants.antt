@@ -1,5 +1,5 @@
 use Rattle.std.proofs.Common.{◌≡◌, ◌++◌, take, flat_map}
-use Rattle.object_file.specs.Spelling.{number}
+use Rattle.object_file.specs.Prelude.{number}
 use Rattle.object_file.proofs.encoding.put_claims.Given as goal
 
 abbrev pub invariant-loop-claim : goal.invariant-loop-claim

@@ -1,5 +1,5 @@
 use Rattle.std.proofs.Common.{◌≡◌, ◌++◌, take, flat_map}
-use Rattle.object_file.specs.Spelling.{instruction}
+use Rattle.object_file.specs.Prelude.{instruction}
 use Rattle.object_file.proofs.encoding.put_code.Given as goal
 
 abbrev pub invariant-loop-instr : goal.invariant-loop-instr

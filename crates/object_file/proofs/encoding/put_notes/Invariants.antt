@@ -1,5 +1,5 @@
 use Rattle.std.proofs.Common.{◌≡◌, ◌++◌, take, flat_map}
-use Rattle.object_file.specs.Spelling.{note}
+use Rattle.object_file.specs.Prelude.{note}
 use Rattle.object_file.proofs.encoding.put_notes.Given as goal
 
 abbrev pub invariant-loop-note : goal.invariant-loop-note

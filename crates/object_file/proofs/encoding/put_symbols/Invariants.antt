@@ -1,5 +1,5 @@
 use Rattle.std.proofs.Common.{◌≡◌, ◌++◌, take, flat_map}
-use Rattle.object_file.specs.Spelling.{symbol}
+use Rattle.object_file.specs.Prelude.{symbol}
 use Rattle.object_file.proofs.encoding.put_symbols.Given as goal
 
 abbrev pub invariant-loop-symbol : goal.invariant-loop-symbol

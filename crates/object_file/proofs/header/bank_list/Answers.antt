@@ -1,6 +1,6 @@
 use Rattle.std.proofs.Common.{[], arith}
 use Rattle.std.proofs.lemmas.Result.{err_from_is_err_and}
-use Rattle.object_file.specs.Reading.{items_at, bank_at}
+use Rattle.object_file.specs.Prelude.{items_at, bank_at}
 use Rattle.object_file.proofs.Loops.{goes_on, ends, is_done}
 use Rattle.object_file.proofs.header.bank_list.Goals as goal
 

@@ -1,5 +1,5 @@
 use Rattle.std.proofs.Common.{◌≡◌, [], ◌-◌, vec_len}
-use Rattle.object_file.specs.Reading.{items_at, bank_at}
+use Rattle.object_file.specs.Prelude.{items_at, bank_at}
 use Rattle.object_file.proofs.header.bank_list.Given as goal
 
 abbrev pub invariant-loop : goal.invariant-loop

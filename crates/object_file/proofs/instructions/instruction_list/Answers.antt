@@ -1,10 +1,10 @@
 use Rattle.std.proofs.Common.{[]}
 use Rattle.std.proofs.lemmas.Result.{err_from_is_err_and}
-use Rattle.object_file.specs.Reading.{items_at, instruction_at}
+use Rattle.object_file.specs.Prelude.{items_at, instruction_at}
 use Rattle.object_file.proofs.AtOnce.{behind_whole}
 use Rattle.object_file.proofs.Loops.{goes_on, ends, is_done}
-use Rattle.object_file.proofs.instructions.instruction_list.Goals as goal
 use Rattle.object_file.proofs.instructions.instruction_list.Goals.{in-Some+in_ok-push-in-Some, in-None+in_ok-instr-in-None+in_ok-push-in-None}
+use Rattle.object_file.proofs.instructions.instruction_list.Goals as goal
 
 pub returns-in_err-instr-in-None : goal.returns-in_err-instr-in-None
 returns-in_err-instr-in-None c =

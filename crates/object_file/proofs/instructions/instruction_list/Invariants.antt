@@ -1,5 +1,5 @@
 use Rattle.std.proofs.Common.{◌≡◌, [], ◌-◌}
-use Rattle.object_file.specs.Reading.{items_at, instruction_at}
+use Rattle.object_file.specs.Prelude.{items_at, instruction_at}
 use Rattle.object_file.proofs.instructions.instruction_list.Given as goal
 
 abbrev pub invariant-loop : goal.invariant-loop

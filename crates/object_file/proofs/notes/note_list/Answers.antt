@@ -1,6 +1,6 @@
 use Rattle.std.proofs.Common.{[]}
 use Rattle.std.proofs.lemmas.Result.{err_from_is_err_and}
-use Rattle.object_file.specs.Reading.{items_at, note_at}
+use Rattle.object_file.specs.Prelude.{items_at, note_at}
 use Rattle.object_file.proofs.Loops.{goes_on, ends, is_done}
 use Rattle.object_file.proofs.notes.note_list.Goals as goal
 

@@ -1,8 +1,8 @@
 use Rattle.std.proofs.Common.{◌≡◌, [], take, arith}
 use Rattle.std.proofs.lemmas.List.{take_more_set, take_all, length-set}
 use Rattle.std.proofs.lemmas.Result.{err_from_is_err_and}
-use Rattle.lt_isa.specs.Ranges.{is_slot_claim}
-use Rattle.object_file.specs.Reading.{items_at, field_at, slots_at}
+use Rattle.lt_isa.specs.Prelude.{is_slot_claim}
+use Rattle.object_file.specs.Prelude.{items_at, field_at, slots_at}
 use Rattle.object_file.proofs.Loops.{goes_on, ends, is_done}
 use Rattle.object_file.proofs.notes.slots.Goals as goal
 

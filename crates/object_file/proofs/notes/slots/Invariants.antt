@@ -1,6 +1,6 @@
 use Rattle.std.proofs.Common.{◌≡◌, [], ◌-◌, take, length}
-use Rattle.lt_isa.specs.Ranges.{is_slot_claim}
-use Rattle.object_file.specs.Reading.{items_at, field_at}
+use Rattle.lt_isa.specs.Prelude.{is_slot_claim}
+use Rattle.object_file.specs.Prelude.{items_at, field_at}
 use Rattle.object_file.proofs.notes.slots.Given as goal
 
 abbrev pub invariant-loop-i : goal.invariant-loop-i

@@ -1,7 +1,6 @@
 use Rattle.std.proofs.Common.{◌≡◌, [], ◌-◌}
-use Rattle.lt_isa.specs.Ranges.{total_length}
-use Rattle.object_file.specs.KnownNames.{AreNamesOf}
-use Rattle.object_file.specs.Reading.{items_at, symbol_at}
+use Rattle.lt_isa.specs.Prelude.{total_length}
+use Rattle.object_file.specs.Prelude.{AreNamesOf, items_at, symbol_at}
 use Rattle.object_file.proofs.symbols.symbol_list.Given as goal
 
 abbrev pub invariant-loop : goal.invariant-loop

@@ -1,8 +1,7 @@
 use Rattle.std.proofs.Common.{◌+◌, arith, subst, sym}
-use Rattle.lt_isa.specs.Trace.{trace_from}
+use Rattle.lt_isa.specs.Prelude.{trace_from}
 use Rattle.call_steps.proofs.EventCounts.{trace-short}
-use Rattle.object_tools.specs.SoFar.{EqualSoFar}
-use Rattle.object_tools.specs.TraceReading.{left_to_read}
+use Rattle.object_tools.specs.Prelude.{EqualSoFar, left_to_read}
 use Rattle.object_tools.proofs.Compared.{compared-begin, compared-less, compared-other, compared-over, compared-room, compared-same}
 use Rattle.object_tools.proofs.Windows.{left-at-start}
 use Rattle.object_tools.proofs.comparing.compare.Goals as goal

@@ -1,7 +1,6 @@
 use Rattle.std.proofs.Common.{length}
-use Rattle.lt_isa.specs.Trace.{trace_from}
-use Rattle.object_tools.specs.SoFar.{EqualSoFar}
-use Rattle.object_tools.specs.TraceReading.{MayRead, left_to_read}
+use Rattle.lt_isa.specs.Prelude.{trace_from}
+use Rattle.object_tools.specs.Prelude.{EqualSoFar, MayRead, left_to_read}
 use Rattle.object_tools.proofs.comparing.compare.Given as goal
 
 abbrev pub invariant-comparing : goal.invariant-comparing

@@ -1,6 +1,6 @@
 use Rattle.std.proofs.Common.{sym, subst}
-use Rattle.lt_isa.specs.Start.{trace}
-use Rattle.object_tools.specs.Statuses.{SaysOfOne}
+use Rattle.lt_isa.specs.Prelude.{trace}
+use Rattle.object_tools.specs.Prelude.{SaysOfOne}
 use Rattle.object_tools.proofs.StatusLaws.{says-of-one}
 use Rattle.object_tools.proofs.count_tool.report.Goals as goal
 

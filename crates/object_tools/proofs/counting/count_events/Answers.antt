@@ -1,8 +1,8 @@
 use Rattle.std.proofs.Common.{length, refl, ap, arith, ◌∙◌}
 use Rattle.std.proofs.lemmas.List.{length-replicate}
-use Rattle.lt_isa.specs.Trace.{trace_from}
+use Rattle.lt_isa.specs.Prelude.{trace_from}
 use Rattle.call_steps.proofs.EventCounts.{trace-short}
-use Rattle.object_tools.specs.TraceReading.{left_to_read}
+use Rattle.object_tools.specs.Prelude.{left_to_read}
 use Rattle.object_tools.proofs.Tallied.{orams-length, tallied-begin, tallied-found}
 use Rattle.object_tools.proofs.Windows.{left-at-start}
 use Rattle.object_tools.proofs.counting.count_events.Goals as goal

@@ -1,7 +1,6 @@
 use Rattle.std.proofs.Common.{◌≡◌, length}
-use Rattle.lt_isa.specs.Trace.{trace_from}
-use Rattle.object_tools.specs.CountedSoFar.{CountedSoFar}
-use Rattle.object_tools.specs.TraceReading.{MayRead, left_to_read}
+use Rattle.lt_isa.specs.Prelude.{trace_from}
+use Rattle.object_tools.specs.Prelude.{CountedSoFar, MayRead, left_to_read}
 use Rattle.object_tools.proofs.counting.count_events.Given as goal
 
 abbrev pub invariant-counting : goal.invariant-counting

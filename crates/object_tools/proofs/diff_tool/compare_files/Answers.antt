@@ -1,5 +1,5 @@
 use Rattle.std.proofs.Common.{ap, ◌∙◌}
-use Rattle.gr_outside.specs.Shelf.{ShelfSeen}
+use Rattle.gr_outside.specs.Prelude.{ShelfSeen}
 use Rattle.object_tools.proofs.FilesStay.{any_work, files-stay}
 use Rattle.object_tools.proofs.diff_tool.compare_files.Goals as goal
 

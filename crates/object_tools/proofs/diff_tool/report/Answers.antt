@@ -1,6 +1,6 @@
 use Rattle.std.proofs.Common.{sym, subst}
-use Rattle.lt_isa.specs.Start.{trace}
-use Rattle.object_tools.specs.Statuses.{SaysOfBoth}
+use Rattle.lt_isa.specs.Prelude.{trace}
+use Rattle.object_tools.specs.Prelude.{SaysOfBoth}
 use Rattle.object_tools.proofs.StatusLaws.{says-of-both}
 use Rattle.object_tools.proofs.diff_tool.report.Goals as goal
 

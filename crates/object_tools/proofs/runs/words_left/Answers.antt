@@ -1,10 +1,7 @@
 use Rattle.std.proofs.Common.{subst}
-use Rattle.lt_isa.specs.Machine.{State}
-use Rattle.lt_isa.specs.Object.{Parts}
-use Rattle.lt_isa.specs.Start.{start_state}
-use Rattle.lt_isa.specs.Trace.{trace_from}
+use Rattle.lt_isa.specs.Prelude.{State, Parts, start_state, trace_from}
 use Rattle.processor.specs.declared.ends.End.{End}
-use Rattle.processor.specs.Ends.{EndsAs, NoHalt}
+use Rattle.processor.specs.Prelude.{EndsAs, NoHalt}
 use Rattle.object_tools.proofs.runs.words_left.Goals as goal
 
 pub returns-in-Ok-Spent : goal.returns-in-Ok-Spent

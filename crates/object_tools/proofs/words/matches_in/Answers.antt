@@ -1,6 +1,6 @@
 use Rattle.std.proofs.Common.{true≢false, sym, ◌∙◌}
 use Rattle.clap.specs.Words.{app_of}
-use Rattle.command_words.specs.Options.{texts}
+use Rattle.command_words.specs.Prelude.{texts}
 use Rattle.command_words.proofs.Wording.{refused-wrong}
 use Rattle.object_tools.proofs.ToolFound.{found_words}
 use Rattle.object_tools.proofs.words.matches_in.Goals as goal

@@ -1,7 +1,7 @@
 use Rattle.std.proofs.Common.{◌≡◌, true, sym, subst}
 use Rattle.std.specs.Prelude.{IfOk}
 use Rattle.clap.specs.Words.{App, is_simple_and_free}
-use Rattle.command_words.specs.Options.{IsFound, texts}
+use Rattle.command_words.specs.Prelude.{IsFound, texts}
 use Rattle.object_tools.proofs.words.matches_of.Goals as goal
 
 pub returns : goal.returns

@@ -1,7 +1,7 @@
 use Rattle.std.proofs.Common.{◌∷◌, ◌++◌, [], ◌∙◌, ap, map, sym}
 use Rattle.std.specs.List.{range_with_len}
 use Rattle.std.proofs.lemmas.List.{map-append}
-use Rattle.path_oram.specs.Slots.{slot_of}
+use Rattle.path_oram.specs.Prelude.{slot_of}
 use Rattle.path_oram.proofs.Beginning.{range_from_zero}
 use Rattle.path_oram.proofs.first.every_slot.Goals as goal
 

@@ -1,5 +1,5 @@
 use Rattle.std.proofs.Common.{◌≡◌, map}
-use Rattle.path_oram.specs.Words.{first_words, leaf_of, words_left}
+use Rattle.path_oram.specs.Prelude.{first_words, leaf_of, words_left}
 use Rattle.path_oram.proofs.leaves.first_leaves.Given as goal
 
 abbrev pub invariant-loop : goal.invariant-loop

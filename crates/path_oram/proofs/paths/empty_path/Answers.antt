@@ -1,7 +1,5 @@
 use Rattle.std.proofs.Common.{ℕ, suc, ◌≡◌, ◌≢◌, ◌<◌, ◌++◌, ◌∙◌, ap, refl, sym, subst, arith, length}
-use Rattle.path_oram.specs.Places.{on_path, held, path_blocks}
-use Rattle.path_oram.specs.Pouring.{poured}
-use Rattle.path_oram.specs.Slots.{blocks_in, slots_at, tree_blocks}
+use Rattle.path_oram.specs.Prelude.{on_path, held, path_blocks, poured, blocks_in, slots_at, tree_blocks}
 use Rattle.path_oram.proofs.PathNumbers.{path_differs, path_within, path_apart}
 use Rattle.path_oram.proofs.Poured.{poured_room, poured_more, stash_more}
 use Rattle.path_oram.proofs.Slots.{blocks_append, blocks_cleared, bucket_has, count_blocks, count_buckets, held_blocks, held_length, stash_poured, tree_cleared}

@@ -1,7 +1,5 @@
 use Rattle.std.proofs.Common.{◌≡◌, ℕ, List, ◌≤◌, ◌++◌, vec_capacity}
-use Rattle.path_oram.specs.Places.{on_path, path_blocks}
-use Rattle.path_oram.specs.Pouring.{poured}
-use Rattle.path_oram.specs.Slots.{AllHaveLeaves, HaveLeaves, blocks_in, tree_blocks}
+use Rattle.path_oram.specs.Prelude.{on_path, path_blocks, poured, AllHaveLeaves, HaveLeaves, blocks_in, tree_blocks}
 use Rattle.path_oram.proofs.paths.empty_path.Given as goal
 
 -- the buckets of the path above `level` are empty

@@ -1,7 +1,7 @@
 use Rattle.std.proofs.Common.{◌≡◌, ◌+◌, ◌<◌, ◌∙◌, ◌++◌, ◌∷◌, [], length, get_or, reverse, take, ap, sym, subst, arith, length-set}
 use Rattle.std.proofs.lemmas.List.{get_or_default, get_or_read, take_all}
 use Rattle.std.proofs.lemmas.List.FromFn.{length-range_with_len, get_or-range_with_len}
-use Rattle.path_oram.specs.WordsRead.{read_word_number, words_read, words_next}
+use Rattle.path_oram.specs.Prelude.{read_word_number, words_read, words_next}
 use Rattle.path_oram.proofs.ReadWords.{read_none, read_more, table_more, table_all}
 use Rattle.path_oram.proofs.runs.read_and_next.Goals as goal
 

@@ -1,5 +1,5 @@
 use Rattle.std.proofs.Common.{◌≡◌, length, reverse, take}
-use Rattle.path_oram.specs.WordsRead.{words_read}
+use Rattle.path_oram.specs.Prelude.{words_read}
 use Rattle.path_oram.proofs.ReadWords.{IsTable}
 use Rattle.path_oram.proofs.runs.read_and_next.Given as goal
 

@@ -2,7 +2,7 @@ use Rattle.std.proofs.Common.{◌≡◌, ◌∙◌, ◌+◌, ◌++◌, length, a
 use Rattle.std.specs.List.Sorted.{IsPermutation}
 use Rattle.std.proofs.lemmas.List.Sorted.{IsPermutation-trans, IsPermutation-append_right, IsNonDecreasingBy-from_sort}
 use Rattle.std.specs.List.{range_with_len}
-use Rattle.path_oram.specs.WordsRead.{words_read, words_next}
+use Rattle.path_oram.specs.Prelude.{words_read, words_next}
 use Rattle.path_oram.proofs.WordsOnce.{each_word_once}
 use Rattle.path_oram.proofs.runs.words_in_order.Goals as goal
 

@@ -1,5 +1,5 @@
 use Rattle.std.proofs.Common.{◌≡◌, ◌+◌, suc, length, set, get_or, refl, sym, ap, ◌∙◌, subst, arith}
-use Rattle.path_oram.specs.Slots.{with_leaf}
+use Rattle.path_oram.specs.Prelude.{with_leaf}
 use Rattle.path_oram.proofs.Slots.{changed_all, changed_before, changed_length, changed_none, changed_one}
 use Rattle.path_oram.proofs.scan.give_leaf.Goals as goal
 

@@ -1,5 +1,5 @@
 use Rattle.std.proofs.Common.{◌≡◌, vec_capacity}
-use Rattle.path_oram.specs.Slots.{with_leaf}
+use Rattle.path_oram.specs.Prelude.{with_leaf}
 use Rattle.path_oram.proofs.Slots.{changed_before}
 use Rattle.path_oram.proofs.scan.give_leaf.Given as goal
 

@@ -1,6 +1,6 @@
 use Rattle.std.proofs.Common.{◌≡◌, get_or, sym, ap, ◌∙◌, ⊎_elim, arith}
 use Rattle.std.proofs.lemmas.Bool.{cases_lt}
-use Rattle.path_oram.specs.Slots.{blocks_in}
+use Rattle.path_oram.specs.Prelude.{blocks_in}
 use Rattle.path_oram.proofs.Slots.{block_at}
 use Rattle.path_oram.proofs.scan.leaf_among.Goals as goal
 

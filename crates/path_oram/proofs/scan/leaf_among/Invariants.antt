@@ -1,5 +1,5 @@
 use Rattle.std.proofs.Common.{ℕ, ◌≢◌, ◌<◌, get_or}
-use Rattle.path_oram.specs.Slots.{blocks_in}
+use Rattle.path_oram.specs.Prelude.{blocks_in}
 use Rattle.path_oram.proofs.scan.leaf_among.Given as goal
 
 -- none of the slots before `place` holds the block

@@ -2,8 +2,7 @@ use Rattle.std.proofs.Common.{◌≡◌, [], sym, ap, ◌∙◌, subst, arith}
 use Rattle.std.specs.Prelude.{Contains}
 use Rattle.std.proofs.lemmas.Bool.{false≢true}
 use Rattle.std.proofs.lemmas.List.{get_or_read}
-use Rattle.path_oram.specs.Places.{held}
-use Rattle.path_oram.specs.Slots.{blocks_in, tree_blocks}
+use Rattle.path_oram.specs.Prelude.{held, blocks_in, tree_blocks}
 use Rattle.path_oram.proofs.Slots.{count_buckets, held_blocks}
 use Rattle.path_oram.proofs.Standing.{one_level_more, stands_in}
 use Rattle.path_oram.proofs.scan.leaf_in_tree.Goals as goal

@@ -1,7 +1,6 @@
 use Rattle.std.proofs.Common.{ℕ, ◌<◌}
 use Rattle.std.specs.Prelude.{Contains}
-use Rattle.path_oram.specs.Places.{held}
-use Rattle.path_oram.specs.Slots.{tree_blocks}
+use Rattle.path_oram.specs.Prelude.{held, tree_blocks}
 use Rattle.path_oram.proofs.scan.leaf_in_tree.Given as goal
 
 -- the buckets before `number` don't hold the block

@@ -1,8 +1,5 @@
 use Rattle.std.proofs.Common.{◌≡◌, ℕ, List, suc, ◌++◌, ◌∙◌, length, set, sym, ap, subst, arith}
-use Rattle.path_oram.specs.Places.{on_path, path_blocks}
-use Rattle.path_oram.specs.Pouring.{poured}
-use Rattle.path_oram.specs.Settling.{WritesBack, IsSettled}
-use Rattle.path_oram.specs.Slots.{HaveLeaves, blocks_in, tree_blocks}
+use Rattle.path_oram.specs.Prelude.{on_path, path_blocks, poured, WritesBack, IsSettled, HaveLeaves, blocks_in, tree_blocks}
 use Rattle.path_oram.proofs.PathNumbers.{path_within}
 use Rattle.path_oram.proofs.Poured.{poured_on, poured_most}
 use Rattle.path_oram.proofs.Slots.{blocks_given, count_blocks, count_buckets, given_have}

@@ -1,6 +1,5 @@
 use Rattle.std.proofs.Common.{◌+◌, ◌≤◌}
-use Rattle.path_oram.specs.Settling.{NoneFrom}
-use Rattle.path_oram.specs.Slots.{tree_blocks}
+use Rattle.path_oram.specs.Prelude.{NoneFrom, tree_blocks}
 use Rattle.path_oram.proofs.settling.room_for.Given as goal
 
 -- no level from `above` on has room and allows the block

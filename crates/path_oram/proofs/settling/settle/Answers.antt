@@ -3,9 +3,7 @@ use Rattle.std.specs.List.{swap_remove}
 use Rattle.std.proofs.lemmas.List.{get_or_read}
 use Rattle.std.proofs.Math.ListN.{get_or-map}
 use Rattle.path_oram.specs.declared.bucket.Placed.{Placed}
-use Rattle.path_oram.specs.Places.{on_path}
-use Rattle.path_oram.specs.Settling.{IsDeepest, NoneFrom}
-use Rattle.path_oram.specs.Slots.{blocks_in, slots_at, tree_blocks}
+use Rattle.path_oram.specs.Prelude.{on_path, IsDeepest, NoneFrom, blocks_in, slots_at, tree_blocks}
 use Rattle.path_oram.proofs.Settled.{settled_kept, settled_start, settled_put}
 use Rattle.path_oram.proofs.Slots.{blocks_put, blocks_taken, count_blocks, count_buckets, slot_has, stash_taken, tree_put}
 use Rattle.path_oram.proofs.settling.settle.Goals as goal

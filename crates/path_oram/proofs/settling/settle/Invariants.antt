@@ -1,6 +1,5 @@
 use Rattle.std.proofs.Common.{◌≡◌, ℕ, List, ◌-◌, ◌≤◌, length, vec_capacity}
-use Rattle.path_oram.specs.Settling.{IsSettled}
-use Rattle.path_oram.specs.Slots.{AllHaveLeaves, HaveLeaves, blocks_in, tree_blocks}
+use Rattle.path_oram.specs.Prelude.{IsSettled, AllHaveLeaves, HaveLeaves, blocks_in, tree_blocks}
 use Rattle.path_oram.proofs.settling.settle.Given as goal
 
 abbrev pub invariant-loop-kept : goal.invariant-loop-kept

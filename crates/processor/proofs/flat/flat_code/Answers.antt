@@ -1,6 +1,6 @@
 use Rattle.std.proofs.Common.{[], ◌∷◌, length, get_or, ap, subst, sym, arith, length-append}
 use Rattle.lt_isa.specs.declared.instructions.Instr.TheVariants.{Nop}
-use Rattle.processor.specs.Flat.{AreFlatForms, IsFlatForm}
+use Rattle.processor.specs.Prelude.{AreFlatForms, IsFlatForm}
 use Rattle.processor.proofs.FlatCode.{flats-more}
 use Rattle.processor.proofs.flat.flat_code.Goals as goal
 

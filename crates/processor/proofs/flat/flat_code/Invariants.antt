@@ -1,5 +1,5 @@
 use Rattle.std.proofs.Common.{◌≡◌, length}
-use Rattle.processor.specs.Flat.{AreFlatForms}
+use Rattle.processor.specs.Prelude.{AreFlatForms}
 use Rattle.processor.proofs.flat.flat_code.Given as goal
 
 abbrev pub invariant-loop-instruction : goal.invariant-loop-instruction

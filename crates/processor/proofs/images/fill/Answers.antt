@@ -1,5 +1,5 @@
 use Rattle.std.proofs.Common.{◌*◌, ◌^◌, ◌≤◌, ◌∙◌, length, ap, arith}
-use Rattle.lt_isa.specs.Object.{block_words, blocks_of, end_word}
+use Rattle.lt_isa.specs.Prelude.{block_words, blocks_of, end_word}
 use Rattle.processor.proofs.StartImages.{IsFilled-none, has_words, words-length, ends_inside, filled_on}
 use Rattle.processor.proofs.images.fill.Goals as goal
 

@@ -1,6 +1,6 @@
 use Rattle.std.proofs.Common.{◌*◌}
 use Rattle.std.specs.Prelude.{vec_capacity}
-use Rattle.lt_isa.specs.Object.{block_words, blocks_of}
+use Rattle.lt_isa.specs.Prelude.{block_words, blocks_of}
 use Rattle.processor.proofs.StartImages.{IsFilling}
 use Rattle.processor.proofs.images.fill.Given as goal
 

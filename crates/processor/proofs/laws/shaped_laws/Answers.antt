@@ -1,4 +1,4 @@
-use Rattle.lt_isa.specs.Start.{start_state}
+use Rattle.lt_isa.specs.Prelude.{start_state}
 use Rattle.lt_isa.proofs.Ends.{final_shaped}
 use Rattle.lt_isa.proofs.Shapes.{step-shaped, stop-shaped}
 use Rattle.lt_isa.proofs.Starts.{IsShaped-start}

@@ -1,6 +1,6 @@
 use Rattle.std.proofs.Common.{◌≡◌, ◌^◌, ◌∷◌, map, sym, ap, ◌∙◌, subst}
-use Rattle.lt_isa.specs.Object.{Parts, block_words}
-use Rattle.processor.specs.Machines.{AreBanksOf}
+use Rattle.lt_isa.specs.Prelude.{Parts, block_words}
+use Rattle.processor.specs.Prelude.{AreBanksOf}
 use Rattle.processor.proofs.Sounds.{widths_same, IsSound-fresh, fresh-view}
 use Rattle.processor.proofs.machine.load.Goals as goal
 

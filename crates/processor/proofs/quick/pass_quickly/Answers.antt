@@ -1,8 +1,8 @@
 -- Each arm does what the instruction of its flat form does, over any scratchpad.
 use Rattle.std.proofs.Common.{rules, ◌≡◌, ℤ, w32, w64, to_z, of_z}
 use Rattle.std.proofs.lemmas.Int.{wraps}
-use Rattle.gr_word.specs.Words.{IsWord}
-use Rattle.lt_isa.specs.Ranges.{IsOffset}
+use Rattle.gr_word.specs.Prelude.{IsWord}
+use Rattle.lt_isa.specs.Prelude.{IsOffset}
 use Rattle.processor.proofs.quick.pass_quickly.Goals as goal
 
 -- a word and an offset as the code hands them on

@@ -1,12 +1,10 @@
 use Rattle.std.proofs.Common.{◌<◌, None, Some, get_or, length, refl, sym, ◌∙◌, subst, arith}
 use Rattle.std.proofs.lemmas.Option.{slice_get-get_or}
 use Rattle.lt_isa.specs.declared.instructions.Instr.TheVariants.{Nop}
-use Rattle.lt_isa.specs.Machine.{State}
+use Rattle.lt_isa.specs.Prelude.{State}
 use Rattle.lt_isa.proofs.Steps.{instruction-fits}
 use Rattle.processor.specs.declared.flat.Flat.TheVariants.{Access}
-use Rattle.processor.specs.Flat.{IsFlatForm, instr_of}
-use Rattle.processor.specs.Quick.{PassesQuickly, StandsForStep, state_at}
-use Rattle.processor.specs.Stores.{Pad}
+use Rattle.processor.specs.Prelude.{IsFlatForm, instr_of, PassesQuickly, StandsForStep, state_at, Pad}
 use Rattle.processor.proofs.FlatCode.{flat-fits, flat-left, flat-passes, left-here}
 use Rattle.processor.proofs.QuickRuns.{came-none, came-on}
 use Rattle.processor.proofs.quick.run_quickly.Goals as goal

@@ -1,5 +1,5 @@
 use Rattle.std.proofs.Common.{◌≡◌, ◌-◌, ◌^◌, ◌<◌, ◌≤◌}
-use Rattle.processor.specs.Quick.{CameAlike}
+use Rattle.processor.specs.Prelude.{CameAlike}
 use Rattle.processor.proofs.quick.run_quickly.Given as goal
 
 abbrev pub invariant-quick : goal.invariant-quick

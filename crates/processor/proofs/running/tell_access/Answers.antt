@@ -1,10 +1,8 @@
 use Rattle.std.proofs.Common.{◌≡◌, [], ◌∷◌, ℕ, Option, Some, None, sym, ◌∙◌, subst, arith}
-use Rattle.lt_isa.specs.Events.{observed_of}
-use Rattle.lt_isa.specs.Trace.{seen_at}
+use Rattle.lt_isa.specs.Prelude.{observed_of, seen_at}
 use Rattle.gr_base.proofs.Counts.{rose_behind}
-use Rattle.banks.specs.ObliviousEvents.{oblivious}
-use Rattle.processor.specs.Ends.{Broke}
-use Rattle.processor.specs.Watching.{AnEvent, APath, path_behind}
+use Rattle.banks.specs.Prelude.{oblivious}
+use Rattle.processor.specs.Prelude.{Broke, AnEvent, APath, path_behind}
 use Rattle.processor.proofs.Progress.{broke_first, broke_second}
 use Rattle.processor.proofs.running.tell_access.Goals as goal
 

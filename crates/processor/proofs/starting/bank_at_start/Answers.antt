@@ -1,5 +1,5 @@
 use Rattle.std.proofs.Common.{◌^◌, get_or, ap, ◌∙◌}
-use Rattle.lt_isa.specs.Object.{no_bank}
+use Rattle.lt_isa.specs.Prelude.{no_bank}
 use Rattle.processor.proofs.StartImages.{front-starting}
 use Rattle.processor.proofs.starting.bank_at_start.Goals as goal
 

@@ -1,5 +1,5 @@
 use Rattle.std.proofs.Common.{subst}
-use Rattle.lt_isa.specs.Ranges.{IsInRange}
+use Rattle.lt_isa.specs.Prelude.{IsInRange}
 use Rattle.processor.proofs.LoadedBanks.{loaded-fit, loaded-running, loaded-state}
 use Rattle.processor.proofs.starting.load_over.Goals as goal
 

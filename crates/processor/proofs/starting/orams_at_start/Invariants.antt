@@ -1,6 +1,6 @@
 use Rattle.std.proofs.Common.{◌≡◌, ◌-◌, map}
 use Rattle.std.specs.List.{range_with_len}
-use Rattle.processor.specs.Starting.{starting_bank}
+use Rattle.processor.specs.Prelude.{starting_bank}
 use Rattle.processor.proofs.starting.orams_at_start.Given as goal
 
 abbrev pub invariant-loop-bank : goal.invariant-loop-bank

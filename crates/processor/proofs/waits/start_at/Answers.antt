@@ -1,5 +1,5 @@
 use Rattle.std.proofs.Common.{sym, ap, ◌∙◌}
-use Rattle.lt_isa.specs.Windows.{has_unit_period}
+use Rattle.lt_isa.specs.Prelude.{has_unit_period}
 use Rattle.lt_isa.proofs.Windows.{always_open}
 use Rattle.processor.proofs.AtOnce.{start_of-at_once}
 use Rattle.processor.proofs.waits.start_at.Goals as goal

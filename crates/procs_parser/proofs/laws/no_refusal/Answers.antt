@@ -1,14 +1,12 @@
 use Rattle.std.proofs.Common.{◌≢◌, List, refl}
 use Rattle.src_lexer.specs.declared.tokens.Token.{Token}
-use Rattle.src_parser.specs.Grammar.{limits}
-use Rattle.src_parser.specs.Refusals.{token_kinds}
+use Rattle.src_parser.specs.Prelude.{limits, token_kinds}
 use Rattle.src_parser.specs.declared.errors.ParseError.{ParseError}
-use Rattle.src_parser.specs.declared.errors.ParseError.TheVariants as error
 use Rattle.src_parser.proofs.Tokenwise.{next_begins}
-use Rattle.src_procs.specs.Trees.{File}
-use Rattle.procs_parser.specs.FileGrammar.{SpellsFile}
-use Rattle.procs_parser.specs.FileRefusals.{ExplainsFile}
+use Rattle.src_procs.specs.Prelude.{File}
+use Rattle.procs_parser.specs.Prelude.{SpellsFile, ExplainsFile}
 use Rattle.procs_parser.proofs.FileLaws.{file_laws}
+use Rattle.src_parser.specs.declared.errors.ParseError.TheVariants as error
 use Rattle.procs_parser.proofs.laws.no_refusal.Goals as goal
 
 none : (tokens : List Token) (f : File) (e : ParseError) → SpellsFile limits (token_kinds tokens) f

@@ -1,9 +1,9 @@
 use Rattle.std.proofs.Common.{◌≡◌, ◌≢◌, List, refl, ap}
 use Rattle.src_lexer.specs.declared.tokens.Token.{Token}
 use Rattle.src_parser.specs.declared.errors.ParseError.{ParseError}
-use Rattle.src_parser.specs.declared.errors.ParseError.TheVariants as error
 use Rattle.src_parser.proofs.OneRefusal.{one_stray, one_deeper, stray_or_deeper, stray_or_cut, deeper_or_cut}
-use Rattle.procs_parser.specs.FileRefusals.{ExplainsFile}
+use Rattle.procs_parser.specs.Prelude.{ExplainsFile}
+use Rattle.src_parser.specs.declared.errors.ParseError.TheVariants as error
 use Rattle.procs_parser.proofs.laws.one_refusal.Goals as goal
 
 same : (tokens : List Token) (a b : ParseError) → ExplainsFile a tokens → ExplainsFile b tokens

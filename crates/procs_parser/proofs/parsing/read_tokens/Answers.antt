@@ -1,11 +1,9 @@
 use Rattle.std.proofs.Common.{◌≡◌, arith, sym, ap, ◌∙◌}
-use Rattle.src_parser.specs.Grammar.{limits}
-use Rattle.src_parser.specs.Tokenwise.{Goes, Wrong, TooMuch}
-use Rattle.procs_parser.specs.FileAdvances.{taken}
-use Rattle.procs_parser.specs.StatesSeen.{advance_of, state_of}
+use Rattle.src_parser.specs.Prelude.{limits, Goes, Wrong, TooMuch}
+use Rattle.procs_parser.specs.Prelude.{taken, advance_of, state_of}
 use Rattle.src_parser.proofs.SeveralTokens.{reads_token, stops_token, reads_all}
-use Rattle.procs_parser.proofs.parsing.read_tokens.Goals as goal
 use Rattle.procs_parser.proofs.parsing.read_tokens.Goals.{in-Goes, in-Opens}
+use Rattle.procs_parser.proofs.parsing.read_tokens.Goals as goal
 
 pub returns-in-Wrong-clause-stops : goal.returns-in-Wrong-clause-stops
 returns-in-Wrong-clause-stops c =

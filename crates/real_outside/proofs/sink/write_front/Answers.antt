@@ -3,8 +3,8 @@ use Rattle.std.proofs.lemmas.List.{take-take}
 use Rattle.std.proofs.Math.Seq.{take-add}
 use Rattle.std.specs.Io.KnownBytes.{Appends}
 use Rattle.std.proofs.KnownBytes.{Appends-trans, Appends-kept}
-use Rattle.real_outside.proofs.sink.write_front.Goals as goal
 use Rattle.real_outside.proofs.sink.write_front.Goals.{in-Ok, in-Err}
+use Rattle.real_outside.proofs.sink.write_front.Goals as goal
 
 -- what was written follows what was written before
 pub loop-turn-preserved : goal.loop-turn-preserved

@@ -1,11 +1,8 @@
 use Rattle.std.proofs.Common.{rules, nat_abs, ◌≡◌, ◌<◌, ◌^◌, pos, ◌∷◌, sym, ap, ap₂, ◌∙◌, subst, arith, w64, to_z, of_z}
 use Rattle.std.proofs.lemmas.Int.{wraps}
 use Rattle.std.proofs.lemmas.List.{length-map}
-use Rattle.path_oram.specs.Words.{leaf_of}
-use Rattle.recursive_oram.specs.Levels.{block_above, tree_level}
-use Rattle.recursive_oram.specs.Descending.{IsDescent}
-use Rattle.recursive_oram.specs.PositionMaps.{IsPositionMap}
-use Rattle.recursive_oram.specs.RecursiveOrams.{levels_of}
+use Rattle.path_oram.specs.Prelude.{leaf_of}
+use Rattle.recursive_oram.specs.Prelude.{block_above, tree_level, IsDescent, IsPositionMap, levels_of}
 use Rattle.recursive_oram.proofs.ComingDown.{number_of, descent-more}
 use Rattle.recursive_oram.proofs.Kept.{with_kept}
 use Rattle.recursive_oram.proofs.Led.{leaves_now-count}

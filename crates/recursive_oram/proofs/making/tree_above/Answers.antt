@@ -1,8 +1,7 @@
 use Rattle.std.proofs.Common.{◌≡◌, ◌<◌, ◌^◌, length, map, refl, sym, ap, ◌∙◌, subst, arith}
 use Rattle.std.specs.List.{All}
-use Rattle.path_oram.specs.Words.{first_words, leaf_of}
-use Rattle.recursive_oram.specs.PositionMaps.{count_above}
-use Rattle.path_oram.specs.Whole.{IsHeightFor}
+use Rattle.path_oram.specs.Prelude.{first_words, leaf_of, IsHeightFor}
+use Rattle.recursive_oram.specs.Prelude.{count_above}
 use Rattle.path_oram.proofs.Started.{leaf_count, leaves_below}
 use Rattle.recursive_oram.proofs.Quarters.{height-one, kept-made, length-as_kept, quarters}
 use Rattle.recursive_oram.proofs.making.tree_above.Goals as goal

@@ -1,7 +1,6 @@
 use Rattle.std.proofs.Common.{◌≡◌, ◌<◌, length, map, sym, subst, arith}
-use Rattle.path_oram.specs.Words.{first_words, leaf_of, words_left}
-use Rattle.recursive_oram.specs.Making.{IsMaking}
-use Rattle.recursive_oram.specs.PositionMaps.{KeepsLeaves, count_above}
+use Rattle.path_oram.specs.Prelude.{first_words, leaf_of, words_left}
+use Rattle.recursive_oram.specs.Prelude.{IsMaking, KeepsLeaves, count_above}
 use Rattle.recursive_oram.proofs.Made.{making-more, many-above}
 use Rattle.recursive_oram.proofs.making.trees_above.Goals as goal
 

@@ -1,17 +1,14 @@
 use Rattle.std.proofs.Common.{◌≡◌, ◌≤◌, ◌∙◌, length, Some, None, refl, sym, ap, arith}
-use Rattle.symbolic_values.specs.Trees.{tree_of}
-use Rattle.trace_patterns.specs.Single.{named_block}
-use Rattle.trace_patterns.specs.SymStates as trees
-use Rattle.trace_patterns.specs.SymStates.{RamSlot, EramSlot}
-use Rattle.region_walk.specs.Tables.{FindsNumber}
+use Rattle.symbolic_values.specs.Prelude.{tree_of}
+use Rattle.trace_patterns.specs.Prelude.{named_block, RamSlot, EramSlot}
+use Rattle.region_walk.specs.Prelude.{FindsNumber, known_tree, number_in}
 use Rattle.region_walk.specs.declared.states.Origin.TheVariants.{Loaded}
 use Rattle.region_walk.specs.declared.states.Slot.TheVariants.{Any, Ram, Eram, Oram}
 use Rattle.region_walk.proofs.TableGrowth.{gains-own}
 use Rattle.region_walk.proofs.HeldBehind.{ldb-behind, oram-loaded, any-loaded, ram-loaded, eram-loaded}
-use Rattle.region_walk.specs.Slots.{known_tree}
-use Rattle.region_walk.specs.States.{number_in}
-use Rattle.region_walk.proofs.behind.bind_block.Goals as goal
 use Rattle.region_walk.proofs.behind.bind_block.Goals.{In-Ok}
+use Rattle.trace_patterns.specs.SymStates as trees
+use Rattle.region_walk.proofs.behind.bind_block.Goals as goal
 
 pub returns-then-is_oblivious : goal.returns-then-is_oblivious
 returns-then-is_oblivious c =

@@ -2,10 +2,10 @@ use Rattle.std.proofs.Common.{◌≡◌, length, ℤ, to_z, of_z, w64, refl, sub
 use Rattle.std.specs.Prelude.{OnOk}
 use Rattle.std.proofs.lemmas.Int.{wraps}
 use Rattle.lt_isa.specs.declared.instructions.Instr.TheVariants.{Li}
-use Rattle.lt_isa.specs.Ranges.{InstrFits}
-use Rattle.gr_word.specs.Words.{IsWord}
-use Rattle.trace_patterns.specs.Carried.{held_behind}
-use Rattle.region_walk.specs.Carrying.{HoldsBehind}
+use Rattle.lt_isa.specs.Prelude.{InstrFits}
+use Rattle.gr_word.specs.Prelude.{IsWord}
+use Rattle.trace_patterns.specs.Prelude.{held_behind}
+use Rattle.region_walk.specs.Prelude.{HoldsBehind}
 use Rattle.region_walk.proofs.HeldBehind.{same-behind}
 use Rattle.region_walk.proofs.behind.hold_behind.Goals as goal
 

@@ -1,5 +1,5 @@
 use Rattle.std.proofs.Common.{◌-◌, ◌^◌, length, sym, subst, arith}
-use Rattle.region_walk.specs.Slots.{NumberedSlotFits}
+use Rattle.region_walk.specs.Prelude.{NumberedSlotFits}
 use Rattle.region_walk.proofs.HeldWords.{held-small}
 use Rattle.region_walk.proofs.HeldBehind.{idb-behind}
 use Rattle.region_walk.proofs.behind.hold_block_number.Goals as goal

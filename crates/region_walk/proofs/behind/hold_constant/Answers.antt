@@ -1,7 +1,7 @@
 use Rattle.std.proofs.Common.{◌≡◌, ℤ, to_z, of_z, w64, subst, rules}
 use Rattle.std.proofs.lemmas.Int.{wraps}
-use Rattle.symbolic_values.specs.Trees.{Const}
-use Rattle.region_walk.specs.Tables.{FindsNumber}
+use Rattle.symbolic_values.specs.Prelude.{Const}
+use Rattle.region_walk.specs.Prelude.{FindsNumber}
 use Rattle.region_walk.proofs.HeldBehind.{li-behind}
 use Rattle.region_walk.proofs.behind.hold_constant.Goals as goal
 

@@ -1,8 +1,8 @@
 use Rattle.std.proofs.Common.{◌≡◌, ℤ, pos, to_z, of_z, w64, ◌∙◌, subst, rules}
 use Rattle.std.proofs.lemmas.Int.{wraps}
 use Rattle.std.proofs.lemmas.Result.{IfOk-weaker}
-use Rattle.symbolic_values.specs.Trees.{Const}
-use Rattle.region_walk.specs.Tables.{FindsNumber}
+use Rattle.symbolic_values.specs.Prelude.{Const}
+use Rattle.region_walk.specs.Prelude.{FindsNumber}
 use Rattle.region_walk.proofs.TableGrowth.{found-both, named-found}
 use Rattle.region_walk.proofs.behind.named.Goals as goal
 

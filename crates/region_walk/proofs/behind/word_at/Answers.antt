@@ -1,11 +1,10 @@
 use Rattle.std.proofs.Common.{sym, subst}
 use Rattle.std.specs.Prelude.{IfOk}
 use Rattle.std.proofs.lemmas.Result.{IfOk-weaker}
-use Rattle.symbolic_values.specs.Trees.{tree_of}
-use Rattle.trace_patterns.specs.Single.{named_word, word_tree}
+use Rattle.symbolic_values.specs.Prelude.{tree_of}
+use Rattle.trace_patterns.specs.Prelude.{named_word, word_tree}
 use Rattle.region_walk.specs.declared.states.Origin.{Origin}
-use Rattle.region_walk.specs.Slots.{origin_of}
-use Rattle.region_walk.specs.Tables.{FindsNumber}
+use Rattle.region_walk.specs.Prelude.{origin_of, FindsNumber}
 use Rattle.region_walk.proofs.TableGrowth.{found-both, slot_word-found, memory_word-found}
 use Rattle.region_walk.proofs.behind.word_at.Goals as goal
 

@@ -1,18 +1,15 @@
 use Rattle.std.proofs.Common.{◌≡◌, ℕ, ◌+◌, ◌-◌, ◌∙◌, ℤ, ap, subst, sym, arith}
 use Rattle.lt_isa.proofs.Offsets.{handed_on}
-use Rattle.trace_patterns.specs.Shape.{Arms, shape}
-use Rattle.trace_patterns.specs.SymStates.{SymState, common}
-use Rattle.trace_patterns.specs.Carries.{CarriesTo, CarriesOver}
+use Rattle.trace_patterns.specs.Prelude.{Arms, shape, SymState, common, CarriesTo, CarriesOver}
 use Rattle.trace_patterns.proofs.Shapes.{IsRegion, shape-arms}
-use Rattle.region_walk.specs.States.{sym_of}
-use Rattle.region_walk.specs.Carrying.{StateIsReady, IsLedOver}
+use Rattle.region_walk.specs.Prelude.{sym_of, StateIsReady, IsLedOver}
 use Rattle.region_walk.proofs.TableGrowth.{keeps-then}
 use Rattle.region_walk.proofs.Numbered.{sym_of-keeps}
 use Rattle.region_walk.proofs.CommonStates.{sym_of-common}
 use Rattle.region_walk.proofs.WalkSteps.{read-at}
 use Rattle.region_walk.proofs.CarriedOn.{leads-then, along-leads, branch-leads, second-unshaped, both-over, arm-carries, ready-more, ready-grown, alike-ready}
-use Rattle.region_walk.proofs.carries.+carries.Goals as goal
 use Rattle.region_walk.proofs.carries.+carries.Goals.{carry_over-In-Arms}
+use Rattle.region_walk.proofs.carries.+carries.Goals as goal
 
 pub carry_to-loop-place-preserved : goal.carry_to-loop-place-preserved
 carry_to-loop-place-preserved t c =

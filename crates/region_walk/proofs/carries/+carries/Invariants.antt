@@ -1,5 +1,5 @@
 use Rattle.std.proofs.Common.{◌+◌, ◌-◌, ◌*◌}
-use Rattle.region_walk.specs.Carrying.{LeadsOn}
+use Rattle.region_walk.specs.Prelude.{LeadsOn}
 use Rattle.region_walk.proofs.carries.+carries.Given as goal
 
 abbrev pub decreases-carry_to : goal.decreases-carry_to

@@ -1,5 +1,5 @@
 use Rattle.std.proofs.Common.{sym, subst}
-use Rattle.region_walk.specs.Entries.{HasEntries}
+use Rattle.region_walk.specs.Prelude.{HasEntries}
 use Rattle.region_walk.proofs.EntryTables.{entries-from}
 use Rattle.region_walk.proofs.region_values.entry_table.Goals as goal
 

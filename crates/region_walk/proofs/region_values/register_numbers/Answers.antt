@@ -1,5 +1,5 @@
 use Rattle.std.proofs.Common.{◌∙◌, arith, length-set}
-use Rattle.symbolic_values.specs.Trees.{Reg}
+use Rattle.symbolic_values.specs.Prelude.{Reg}
 use Rattle.region_walk.proofs.EntryTables.{numbers-none, numbers-more}
 use Rattle.region_walk.proofs.region_values.register_numbers.Goals as goal
 

@@ -1,6 +1,6 @@
 use Rattle.std.proofs.Common.{◌≡◌, length}
-use Rattle.symbolic_values.specs.Trees.{Reg}
-use Rattle.region_walk.specs.Entries.{Numbers}
+use Rattle.symbolic_values.specs.Prelude.{Reg}
+use Rattle.region_walk.specs.Prelude.{Numbers}
 use Rattle.region_walk.proofs.region_values.register_numbers.Given as goal
 
 abbrev pub invariant-loop-register : goal.invariant-loop-register

@@ -1,5 +1,5 @@
 use Rattle.std.proofs.Common.{◌∙◌, arith, length-set}
-use Rattle.symbolic_values.specs.Trees.{SlotAt}
+use Rattle.symbolic_values.specs.Prelude.{SlotAt}
 use Rattle.region_walk.proofs.EntryTables.{numbers-none, numbers-more}
 use Rattle.region_walk.proofs.region_values.slot_numbers.Goals as goal
 

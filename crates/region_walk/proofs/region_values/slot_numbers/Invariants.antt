@@ -1,6 +1,6 @@
 use Rattle.std.proofs.Common.{◌≡◌, length}
-use Rattle.symbolic_values.specs.Trees.{SlotAt}
-use Rattle.region_walk.specs.Entries.{Numbers}
+use Rattle.symbolic_values.specs.Prelude.{SlotAt}
+use Rattle.region_walk.specs.Prelude.{Numbers}
 use Rattle.region_walk.proofs.region_values.slot_numbers.Given as goal
 
 abbrev pub invariant-loop-slot : goal.invariant-loop-slot

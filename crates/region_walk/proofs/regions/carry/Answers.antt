@@ -1,8 +1,7 @@
 use Rattle.std.proofs.Common.{ℕ, ℤ, subst}
 use Rattle.lt_isa.proofs.Offsets.{handed_on}
-use Rattle.lt_isa.specs.Ranges.{IsOffset}
-use Rattle.trace_patterns.specs.Carries.{JoinsIn}
-use Rattle.trace_patterns.specs.Known.{Known}
+use Rattle.lt_isa.specs.Prelude.{IsOffset}
+use Rattle.trace_patterns.specs.Prelude.{JoinsIn, Known}
 use Rattle.region_walk.proofs.regions.carry.Goals as goal
 
 pub returns-in-Unshaped : goal.returns-in-Unshaped

@@ -1,12 +1,9 @@
 use Rattle.std.proofs.Common.{◌≡◌, ◌-◌, ℕ, ℤ, List, length, to_z, of_z, w32, sym, ap, subst}
 use Rattle.lt_isa.proofs.Offsets.{handed_on}
-use Rattle.lt_isa.specs.Ranges.{IsOffset}
+use Rattle.lt_isa.specs.Prelude.{IsOffset}
 use Rattle.lt_isa.specs.declared.instructions.Instr.{Instr}
-use Rattle.trace_patterns.specs.Carries.{CarriesOver}
-use Rattle.trace_patterns.specs.SymStates.{SymState}
-use Rattle.region_walk.specs.Entries.{BeginsWithEntries}
-use Rattle.region_walk.specs.States.{sym_of}
-use Rattle.region_walk.specs.Carrying.{LeadsOver}
+use Rattle.trace_patterns.specs.Prelude.{CarriesOver, SymState}
+use Rattle.region_walk.specs.Prelude.{BeginsWithEntries, sym_of, LeadsOver}
 use Rattle.region_walk.proofs.EntryTables.{begins-grown}
 use Rattle.region_walk.proofs.CarriedOn.{carried-to, not-carried}
 use Rattle.region_walk.proofs.regions.carry_in.Goals as goal

@@ -1,11 +1,8 @@
 use Rattle.std.proofs.Common.{◌≡◌, ◌-◌, ℕ, ℤ, List, length, sym, ap, subst}
 use Rattle.lt_isa.proofs.Offsets.{handed_on}
-use Rattle.lt_isa.specs.Ranges.{IsOffset}
+use Rattle.lt_isa.specs.Prelude.{IsOffset}
 use Rattle.lt_isa.specs.declared.instructions.Instr.{Instr}
-use Rattle.region_walk.specs.Entries.{BeginsWithEntries}
-use Rattle.region_walk.specs.FuelWalk.{Blocked, crossing, walk}
-use Rattle.region_walk.specs.States.{sym_of}
-use Rattle.region_walk.specs.Ways.{IsCrossedBy}
+use Rattle.region_walk.specs.Prelude.{BeginsWithEntries, Blocked, crossing, walk, sym_of, IsCrossedBy}
 use Rattle.region_walk.proofs.Crossings.{crossed-in_code, blocked-in_code}
 use Rattle.region_walk.proofs.EntryTables.{begins-grown}
 use Rattle.region_walk.proofs.regions.cross_in.Goals as goal

@@ -3,13 +3,10 @@ use Rattle.std.specs.Prelude.{Ok, OnOk}
 use Rattle.std.proofs.lemmas.Int.{wraps}
 use Rattle.lt_isa.proofs.Offsets.{handed_on}
 use Rattle.lt_isa.specs.declared.instructions.Instr.TheVariants.{Nop, Li, Alu, Idb, Ldw, Stw, Br}
-use Rattle.lt_isa.specs.Ranges.{InstrFits, IsOffset}
-use Rattle.gr_word.specs.Words.{IsWord}
-use Rattle.trace_patterns.specs.Single.{jump_refused, single}
-use Rattle.trace_patterns.specs.Carried.{held_behind}
-use Rattle.region_walk.specs.Carrying.{HoldsBehind}
-use Rattle.region_walk.specs.Shows.{if_bound, if_stored}
-use Rattle.region_walk.specs.Singles.{IsBranch}
+use Rattle.lt_isa.specs.Prelude.{InstrFits, IsOffset}
+use Rattle.gr_word.specs.Prelude.{IsWord}
+use Rattle.trace_patterns.specs.Prelude.{jump_refused, single, held_behind}
+use Rattle.region_walk.specs.Prelude.{HoldsBehind, if_bound, if_stored, IsBranch}
 use Rattle.region_walk.proofs.HeldBehind.{same-behind}
 use Rattle.region_walk.proofs.SingleSteps.{quiet-single, bound-single, stored-single, load-single, store-single, alu-few, word-few}
 use Rattle.region_walk.proofs.singles.single_at.Goals as goal

@@ -1,22 +1,16 @@
 use Rattle.std.proofs.Common.{◌≡◌, ℕ, ◌≤◌, ◌+◌, ◌*◌, ◌-◌, ◌∙◌, ℤ, length, refl, ap, subst, sym, arith}
 use Rattle.lt_isa.proofs.Offsets.{handed_on}
 use Rattle.lt_isa.specs.declared.profiles.Profile.{Profile}
-use Rattle.trace_patterns.specs.Patterns.{no_events, with_gap}
-use Rattle.trace_patterns.specs.Events.{over_trees}
-use Rattle.trace_patterns.specs.Single.{gap}
-use Rattle.trace_patterns.specs.Shape.{Arms, shape}
-use Rattle.region_walk.specs.FuelWalk.{Blocked, crossing, walk}
+use Rattle.trace_patterns.specs.Prelude.{no_events, with_gap, over_trees, gap, Arms, shape}
+use Rattle.region_walk.specs.Prelude.{Blocked, crossing, walk, IsCompared, sym_of, GapsWithin, WayIsReady, IsCrossedBy}
 use Rattle.trace_patterns.proofs.Shapes.{IsRegion, shape-arms}
-use Rattle.region_walk.specs.Arms.{IsCompared}
-use Rattle.region_walk.specs.States.{sym_of}
-use Rattle.region_walk.specs.Ways.{GapsWithin, WayIsReady, IsCrossedBy}
 use Rattle.region_walk.proofs.TableGrowth.{keeps-longer}
 use Rattle.region_walk.proofs.Numbered.{state_fits-more, sym_of-keeps}
 use Rattle.region_walk.proofs.WayLaws.{WalksOn, gaps-first, gaps-none, gaps-more}
 use Rattle.region_walk.proofs.WalkSteps.{goes_to-then, refused-stops, quietly-on, showing-on, blocked-stops, crossed-next, read-at}
 use Rattle.region_walk.proofs.RegionSteps.{ready-from, arm-stops, arm-walks, first-blocks, second-blocks, ways-compared}
-use Rattle.region_walk.proofs.walks.+walks.Goals as goal
 use Rattle.region_walk.proofs.walks.+walks.Goals.{region_of-In-Arms, region_of-In-Reaches}
+use Rattle.region_walk.proofs.walks.+walks.Goals as goal
 
 pub walk-loop-place-preserved : goal.walk-loop-place-preserved
 walk-loop-place-preserved t c =

@@ -1,5 +1,5 @@
 use Rattle.std.proofs.Common.{◌+◌, ◌-◌, ◌*◌}
-use Rattle.region_walk.specs.Ways.{GoesTo}
+use Rattle.region_walk.specs.Prelude.{GoesTo}
 use Rattle.region_walk.proofs.walks.+walks.Given as goal
 
 abbrev pub decreases-walk : goal.decreases-walk

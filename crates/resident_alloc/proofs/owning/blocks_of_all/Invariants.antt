@@ -1,6 +1,6 @@
 use Rattle.std.proofs.Common.{◌≡◌, ◌+◌, ◌*◌, ◌≤◌, take}
-use Rattle.src_tree.specs.Limits.{max_length}
-use Rattle.resident_alloc.specs.Residents.{blocks_of_all}
+use Rattle.src_tree.specs.Prelude.{max_length}
+use Rattle.resident_alloc.specs.Prelude.{blocks_of_all}
 use Rattle.resident_alloc.proofs.owning.blocks_of_all.Given as goal
 
 abbrev pub invariant-loop-v : goal.invariant-loop-v

@@ -1,7 +1,6 @@
 use Rattle.std.proofs.Common.{◌≡◌, sym, subst}
 use Rattle.std.proofs.lemmas.Result.{IfOk-weaker}
-use Rattle.resident_alloc.specs.Ranges.{AreShort}
-use Rattle.resident_alloc.specs.ResidentPlan.{without_short}
+use Rattle.resident_alloc.specs.Prelude.{AreShort, without_short}
 use Rattle.resident_alloc.proofs.RoomSteps.{without_short_short}
 use Rattle.resident_alloc.proofs.owning.in_oblivious_banks.Goals as goal
 

@@ -1,5 +1,5 @@
 use Rattle.std.proofs.Common.{◌∙◌, sym, arith}
-use Rattle.resident_alloc.specs.ResidentPlan.{without_short}
+use Rattle.resident_alloc.specs.Prelude.{without_short}
 use Rattle.resident_alloc.proofs.RoomSteps.{kept, skipped, skipped_done}
 use Rattle.resident_alloc.proofs.owning.without_short.Goals as goal
 

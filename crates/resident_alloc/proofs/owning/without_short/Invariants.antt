@@ -1,5 +1,5 @@
 use Rattle.std.proofs.Common.{◌≡◌, ◌++◌, drop}
-use Rattle.resident_alloc.specs.ResidentPlan.{without_short}
+use Rattle.resident_alloc.specs.Prelude.{without_short}
 use Rattle.resident_alloc.proofs.owning.without_short.Given as goal
 
 abbrev pub invariant-loop-v : goal.invariant-loop-v

@@ -1,6 +1,6 @@
 use Rattle.std.proofs.Common.{◌≡◌, ◌+◌, ◌*◌, ◌≤◌, drop}
-use Rattle.src_tree.specs.Limits.{max_length}
-use Rattle.resident_alloc.specs.ResidentPlan.{blocks_in_turn}
+use Rattle.src_tree.specs.Prelude.{max_length}
+use Rattle.resident_alloc.specs.Prelude.{blocks_in_turn}
 use Rattle.resident_alloc.proofs.placing.blocks_in_turn.Given as goal
 
 abbrev pub invariant-loop-number : goal.invariant-loop-number

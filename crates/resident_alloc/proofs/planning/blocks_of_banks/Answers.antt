@@ -1,5 +1,5 @@
 use Rattle.bank_alloc.proofs.PlacedBehind.{blocks_more}
-use Rattle.resident_alloc.specs.ResidentPlan.{resident_blocks}
+use Rattle.resident_alloc.specs.Prelude.{resident_blocks}
 use Rattle.resident_alloc.proofs.planning.blocks_of_banks.Goals as goal
 
 pub loop-bank-preserved : goal.loop-bank-preserved

@@ -1,5 +1,5 @@
 use Rattle.std.proofs.Common.{◌≡◌, drop}
-use Rattle.resident_alloc.specs.ResidentPlan.{own_pin}
+use Rattle.resident_alloc.specs.Prelude.{own_pin}
 use Rattle.resident_alloc.proofs.planning.own_pin.Given as goal
 
 abbrev pub invariant-loop-v : goal.invariant-loop-v

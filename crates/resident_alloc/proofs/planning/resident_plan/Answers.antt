@@ -1,6 +1,6 @@
 use Rattle.std.proofs.Common.{ap, ◌∙◌, sym}
-use Rattle.src_tree.specs.Trees.{source_of}
-use Rattle.resident_alloc.specs.Ranges.{scalars_lack}
+use Rattle.src_tree.specs.Prelude.{source_of}
+use Rattle.resident_alloc.specs.Prelude.{scalars_lack}
 use Rattle.resident_alloc.proofs.ResidentLacks.{bank_refused, banks_fit, blocks_are, blocks_few, scalars_fit, scalars_refused}
 use Rattle.resident_alloc.proofs.planning.resident_plan.Goals as goal
 

@@ -1,5 +1,5 @@
 use Rattle.std.proofs.Common.{◌∙◌, sym}
-use Rattle.resident_alloc.specs.Residents.{left_out}
+use Rattle.resident_alloc.specs.Prelude.{left_out}
 use Rattle.resident_alloc.proofs.RoomSteps.{left_out_passed, left_out_pushed}
 use Rattle.resident_alloc.proofs.sharing.left_out.Goals as goal
 

@@ -1,5 +1,5 @@
 use Rattle.std.proofs.Common.{◌≡◌, ◌++◌, drop}
-use Rattle.resident_alloc.specs.Residents.{left_out}
+use Rattle.resident_alloc.specs.Prelude.{left_out}
 use Rattle.resident_alloc.proofs.sharing.left_out.Given as goal
 
 abbrev pub invariant-loop-v : goal.invariant-loop-v

@@ -1,5 +1,5 @@
 use Rattle.std.proofs.Common.{◌≡◌, ◌≤◌, drop}
-use Rattle.resident_alloc.specs.Residents.{room_after}
+use Rattle.resident_alloc.specs.Prelude.{room_after}
 use Rattle.resident_alloc.proofs.sharing.room_after.Given as goal
 
 abbrev pub invariant-loop-v : goal.invariant-loop-v

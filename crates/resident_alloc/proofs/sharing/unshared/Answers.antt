@@ -1,7 +1,6 @@
 use Rattle.std.proofs.Common.{◌≡◌, sym, subst}
 use Rattle.std.proofs.lemmas.Result.{IfOk-weaker}
-use Rattle.resident_alloc.specs.Ranges.{AreShort}
-use Rattle.resident_alloc.specs.Residents.{left_out}
+use Rattle.resident_alloc.specs.Prelude.{AreShort, left_out}
 use Rattle.resident_alloc.proofs.RoomSteps.{left_out_short}
 use Rattle.resident_alloc.proofs.sharing.unshared.Goals as goal
 

@@ -1,5 +1,5 @@
 use Rattle.std.proofs.Common.{◌≡◌, [], ◌++◌, take, drop}
-use Rattle.resident_alloc.specs.ResidentPlan.{planned_behind}
+use Rattle.resident_alloc.specs.Prelude.{planned_behind}
 use Rattle.resident_alloc.proofs.variables.planned_all.Given as goal
 
 abbrev pub invariant-loop-i : goal.invariant-loop-i

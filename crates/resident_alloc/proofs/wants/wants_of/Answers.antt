@@ -1,5 +1,5 @@
 use Rattle.std.proofs.Common.{arith}
-use Rattle.src_tree.specs.Trees.{source_of}
+use Rattle.src_tree.specs.Prelude.{source_of}
 use Rattle.resident_alloc.proofs.PlanSteps.{wants_all}
 use Rattle.resident_alloc.proofs.wants.wants_of.Goals as goal
 

@@ -1,7 +1,6 @@
 use Rattle.std.proofs.Common.{◌≡◌, map, take}
-use Rattle.bank_alloc.specs.Classes.{class_of}
-use Rattle.src_tree.specs.Limits.{words_of}
-use Rattle.src_tree.specs.Trees.{source_of}
+use Rattle.bank_alloc.specs.Prelude.{class_of}
+use Rattle.src_tree.specs.Prelude.{words_of, source_of}
 use Rattle.resident_alloc.proofs.wants.wants_of.Given as goal
 
 abbrev pub invariant-loop-i : goal.invariant-loop-i

@@ -1,5 +1,5 @@
 use Rattle.std.proofs.Common.{◌≡◌, ◌≤◌, ◌+◌, ◌*◌, ◌++◌, length, take}
-use Rattle.run_data.specs.TraceText.{words_text}
+use Rattle.run_data.specs.Prelude.{words_text}
 use Rattle.run_data.proofs.events.push_words.Given as goal
 
 abbrev pub invariant-loop-word : goal.invariant-loop-word

@@ -1,10 +1,10 @@
 use Rattle.std.proofs.Common.{◌≡◌, ◌<◌, ◌∷◌, ◌++◌, [], length, ap, ◌∙◌, arith, length-append, append_assoc, subst}
-use Rattle.run_data.specs.TraceText.{words_text}
-use Rattle.gr_base.specs.Counts.{Rose}
+use Rattle.run_data.specs.Prelude.{words_text}
+use Rattle.gr_base.specs.Prelude.{Rose}
 use Rattle.gr_base.proofs.Added.{Adds-then}
 use Rattle.run_data.proofs.Pieces.{cut_within, puts_last, goes_on, goes_on_to}
-use Rattle.run_data.proofs.events.put_line.Goals as goal
 use Rattle.run_data.proofs.events.put_line.Goals.{After-as_slice}
+use Rattle.run_data.proofs.events.put_line.Goals as goal
 
 -- with the piece, what is written and the words that are left still make the line
 turn : (g : _) (c : After-as_slice g)

@@ -1,6 +1,6 @@
 use Rattle.std.proofs.Common.{◌≡◌, ◌≤◌, ◌++◌, List, ℕ, length}
-use Rattle.gr_base.specs.Added.{Adds}
-use Rattle.run_data.specs.TraceText.{words_text}
+use Rattle.gr_base.specs.Prelude.{Adds}
+use Rattle.run_data.specs.Prelude.{words_text}
 use Rattle.run_data.proofs.events.put_line.Given as goal
 
 abbrev pub decreases-loop-rest : goal.decreases-loop-rest

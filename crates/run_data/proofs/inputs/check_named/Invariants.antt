@@ -1,5 +1,5 @@
 use Rattle.std.proofs.Common.{◌≡◌, drop}
-use Rattle.run_data.specs.Given.{given_view, given_named_fault}
+use Rattle.run_data.specs.Prelude.{given_view, given_named_fault}
 use Rattle.run_data.proofs.inputs.check_named.Given as goal
 
 abbrev pub invariant-loop-want : goal.invariant-loop-want

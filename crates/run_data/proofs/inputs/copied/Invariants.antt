@@ -1,5 +1,5 @@
 use Rattle.std.proofs.Common.{◌≡◌, take}
-use Rattle.gr_word.specs.Fitting.{AreWords}
+use Rattle.gr_word.specs.Prelude.{AreWords}
 use Rattle.run_data.proofs.inputs.copied.Given as goal
 
 abbrev pub invariant-loop-word : goal.invariant-loop-word

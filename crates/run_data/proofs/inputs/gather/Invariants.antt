@@ -1,6 +1,6 @@
 use Rattle.std.proofs.Common.{◌≡◌, map, take, All}
-use Rattle.gr_word.specs.Fitting.{AreWords}
-use Rattle.run_data.specs.Given.{entries_view, given_words}
+use Rattle.gr_word.specs.Prelude.{AreWords}
+use Rattle.run_data.specs.Prelude.{entries_view, given_words}
 use Rattle.run_data.proofs.inputs.gather.Given as goal
 
 abbrev pub invariant-loop-want : goal.invariant-loop-want

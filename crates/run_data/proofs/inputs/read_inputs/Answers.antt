@@ -1,9 +1,8 @@
 use Rattle.std.proofs.Common.{◌≡◌, ◌+◌, length, Some, option_map, sym, ap, ◌∙◌, subst, All, map, arith}
 use Rattle.std.proofs.lemmas.Result.{IfOk-weaker, IfErr-weaker}
 use Rattle.serde_json.specs.Find.{as_object}
-use Rattle.gr_word.specs.Fitting.{AreWords, FitsWants}
-use Rattle.run_data.specs.InputsOf.{inputs_of}
-use Rattle.run_data.specs.Given.{least_given, entries_view, first_given_fault, given_words}
+use Rattle.gr_word.specs.Prelude.{AreWords, FitsWants}
+use Rattle.run_data.specs.Prelude.{inputs_of, least_given, entries_view, first_given_fault, given_words}
 use Rattle.run_data.proofs.Fits.{given_fits}
 use Rattle.run_data.proofs.Given.{object_kept, inputs_at, faulty_inputs, faultless_inputs, first_fault_kept, all_words_kept}
 use Rattle.run_data.proofs.LeastMembers.{all_kept, least_fault}

@@ -1,10 +1,10 @@
 use Rattle.std.proofs.Common.{◌≡◌, Option, None, Bor, option_map, subst}
 use Rattle.std.specs.Option.{option_copied}
 use Rattle.run_data.specs.declared.members.Given.{Given}
-use Rattle.run_data.specs.Given.{given_view, entries_view, find_given}
+use Rattle.run_data.specs.Prelude.{given_view, entries_view, find_given}
 use Rattle.run_data.proofs.Given.{given_at}
-use Rattle.run_data.proofs.inputs.words_given.Goals as goal
 use Rattle.run_data.proofs.inputs.words_given.Goals.{After-get}
+use Rattle.run_data.proofs.inputs.words_given.Goals as goal
 
 -- what the members give at the variable's name
 found : (c : After-get) (value : Option (Bor Given))

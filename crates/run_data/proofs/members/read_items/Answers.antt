@@ -4,7 +4,7 @@ use Rattle.std.proofs.Math.Bool.{and-true}
 use Rattle.json.specs.Json.{parse_map, after_end_array, items, value}
 use Rattle.serde_json.specs.Data.{no_items, item}
 use Rattle.serde_json.specs.Read.{of_items, converted}
-use Rattle.run_data.specs.InputsOf.{list_of, is_word, word_of, words_listed}
+use Rattle.run_data.specs.Prelude.{list_of, is_word, word_of, words_listed}
 use Rattle.run_data.proofs.JsonReading.{item_read, item_refused, items_over, none_before, one_more}
 use Rattle.run_data.proofs.members.read_items.Goals as goal
 

@@ -3,7 +3,7 @@ use Rattle.std.specs.List.{list_all}
 use Rattle.json.specs.Json.{items, value, parse_map}
 use Rattle.serde_json.specs.Data.{Items}
 use Rattle.serde_json.specs.Read.{of_items, converted}
-use Rattle.run_data.specs.InputsOf.{list_of, is_word, words_listed}
+use Rattle.run_data.specs.Prelude.{list_of, is_word, words_listed}
 use Rattle.run_data.proofs.members.read_items.Given as goal
 
 abbrev pub invariant-items : goal.invariant-items

@@ -3,7 +3,7 @@ use Rattle.std.proofs.lemmas.List.{take_all}
 use Rattle.json.specs.Json.{read_key, value}
 use Rattle.json.proofs.Grammar.{read_key-shorter}
 use Rattle.serde_json.specs.Data.{no_members, put}
-use Rattle.run_data.specs.Given.{least_given, entries_view}
+use Rattle.run_data.specs.Prelude.{least_given, entries_view}
 use Rattle.run_data.proofs.LeastMembers.{put_least_seen, least_few}
 use Rattle.run_data.proofs.JsonReading.{member_read, member_refused, key_refused, members_over}
 use Rattle.run_data.proofs.members.read_members.Goals as goal

@@ -2,7 +2,7 @@ use Rattle.std.proofs.Common.{◌≡◌, ℕ, ◌≤◌, length}
 use Rattle.json.specs.Json.{members, value}
 use Rattle.serde_json.specs.Data.{Members, no_members}
 use Rattle.serde_json.specs.Read.{of_members, converted}
-use Rattle.run_data.specs.Given.{least_given, entries_view}
+use Rattle.run_data.specs.Prelude.{least_given, entries_view}
 use Rattle.run_data.proofs.members.read_members.Given as goal
 
 abbrev pub invariant-members : goal.invariant-members

@@ -2,7 +2,7 @@ use Rattle.std.proofs.Common.{◌≡◌, ◌∷◌, true, Some, option_map, refl
 use Rattle.json.specs.Json.{parse_map}
 use Rattle.json.specs.Reads.{token_of}
 use Rattle.serde_json.specs.Data.{array, object}
-use Rattle.run_data.specs.Given.{least_given}
+use Rattle.run_data.specs.Prelude.{least_given}
 use Rattle.run_data.proofs.JsonTokens.{is_plain, is_misplaced, plain_read, number_read, number_refused, opened_array, opened_object, no_token, misplaced}
 use Rattle.run_data.proofs.members.read_object.Goals as goal
 

@@ -2,7 +2,7 @@ use Rattle.std.proofs.Common.{◌≡◌, List, ℕ, Bool, true, false, cond, Non
 use Rattle.std.specs.Str.{IsUtf8, is_utf8}
 use Rattle.std.proofs.lemmas.Str.{is_utf8-from_IsUtf8, IsUtf8-from_is_utf8}
 use Rattle.serde_json.specs.Read.{read}
-use Rattle.run_data.specs.InputsOf.{json_of}
+use Rattle.run_data.specs.Prelude.{json_of}
 use Rattle.run_data.proofs.members.read_text.Goals as goal
 
 read_utf8 : (bytes : List ℕ) → IsUtf8 bytes → json_of bytes ≡ read bytes

@@ -1,6 +1,6 @@
 use Rattle.std.proofs.Common.{◌≡◌, ◌∷◌, ◌++◌, drop, ltb, false}
 use Rattle.serde_json.specs.Written.{items_text}
-use Rattle.run_data.specs.OutputText.{word_items}
+use Rattle.run_data.specs.Prelude.{word_items}
 use Rattle.run_data.proofs.outputs.add_list.Given as goal
 
 abbrev pub invariant-loop-i : goal.invariant-loop-i

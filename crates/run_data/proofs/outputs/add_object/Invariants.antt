@@ -1,6 +1,6 @@
 use Rattle.std.proofs.Common.{◌≡◌, ◌∷◌, ◌++◌, not, false}
 use Rattle.serde_json.specs.Written.{members_text}
-use Rattle.run_data.specs.OutputMembers.{members_seen, HaveNames}
+use Rattle.run_data.specs.Prelude.{members_seen, HaveNames}
 use Rattle.run_data.proofs.outputs.add_object.Given as goal
 
 abbrev pub invariant-loop-name : goal.invariant-loop-name

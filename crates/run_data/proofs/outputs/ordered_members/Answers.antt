@@ -1,6 +1,6 @@
 use Rattle.std.proofs.Common.{subst, sym, ◌∙◌, IsTrue, arith}
-use Rattle.gr_word.specs.Names.{is_name}
-use Rattle.run_data.specs.OutputMembers.{HaveNames}
+use Rattle.gr_word.specs.Prelude.{is_name}
+use Rattle.run_data.specs.Prelude.{HaveNames}
 use Rattle.run_data.proofs.Shown.{names-insert_entry, fitting_length, member_put}
 use Rattle.run_data.proofs.outputs.ordered_members.Goals as goal
 

@@ -1,7 +1,6 @@
 use Rattle.std.proofs.Common.{◌≡◌, drop}
 use Rattle.serde_json.specs.Data.{no_members}
-use Rattle.run_data.specs.OutputText.{members_with}
-use Rattle.run_data.specs.OutputMembers.{members_seen, HaveNames}
+use Rattle.run_data.specs.Prelude.{members_with, members_seen, HaveNames}
 use Rattle.run_data.proofs.outputs.ordered_members.Given as goal
 
 abbrev pub invariant-loop-i : goal.invariant-loop-i

@@ -1,5 +1,5 @@
 use Rattle.std.proofs.Common.{◌≡◌, ◌≤◌, ◌+◌, ◌*◌, ◌++◌, length, take}
-use Rattle.run_data.specs.PathText.{leaves_text}
+use Rattle.run_data.specs.Prelude.{leaves_text}
 use Rattle.run_data.proofs.paths.push_leaves.Given as goal
 
 abbrev pub invariant-loop-leaf : goal.invariant-loop-leaf

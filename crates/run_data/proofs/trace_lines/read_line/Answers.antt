@@ -1,6 +1,6 @@
 use Rattle.std.proofs.Common.{ap, ◌∙◌}
 use Rattle.std.proofs.lemmas.Result.{IfOk-weaker}
-use Rattle.run_data.specs.TracePieces.{contents, PiecesFound, LineFound}
+use Rattle.run_data.specs.Prelude.{contents, PiecesFound, LineFound}
 use Rattle.run_data.proofs.TraceReading.{line-found}
 use Rattle.run_data.proofs.trace_lines.read_line.Goals as goal
 

@@ -1,5 +1,5 @@
 use Rattle.std.proofs.Common.{◌≡◌, ◌++◌, take}
-use Rattle.run_data.specs.TraceText.{words_text}
+use Rattle.run_data.specs.Prelude.{words_text}
 use Rattle.run_data.proofs.traces.add_words.Given as goal
 
 abbrev pub invariant-loop-word : goal.invariant-loop-word

@@ -1,6 +1,5 @@
 use Rattle.std.proofs.Common.{◌≡◌, map, take, length}
-use Rattle.run_data.specs.TraceFiles.{stamped_in}
-use Rattle.run_data.specs.TracePieces.{contents, AreRead}
+use Rattle.run_data.specs.Prelude.{stamped_in, contents, AreRead}
 use Rattle.run_data.proofs.traces.read_events.Given as goal
 
 abbrev pub invariant-loop-line : goal.invariant-loop-line

@@ -1,14 +1,12 @@
 use Rattle.std.proofs.Common.{◌≡◌, ℕ, length, take, ◌-◌, ⊎_elim, sym, ap, ◌∙◌, arith, ◌^◌, Option, Some, None}
 use Rattle.std.proofs.lemmas.List.{length-map, length-take-le}
-use Rattle.run_data.specs.TraceFiles.{file_events, stamped_in}
-use Rattle.run_data.specs.TraceGrammar.{SpellsTrace, BreaksAt}
-use Rattle.run_data.specs.TracePieces.{contents, break_of}
+use Rattle.run_data.specs.Prelude.{file_events, stamped_in, SpellsTrace, BreaksAt, contents, break_of}
 use Rattle.run_data.proofs.TraceEnds.{whole-trace, breaks-at}
 use Rattle.run_data.proofs.TraceSizes.{number_fits}
 use Rattle.run_data.proofs.TraceUnique.{same-trace}
 use Rattle.run_data.proofs.TraceWhole.{Reading, reading, parts_some, break_is}
-use Rattle.run_data.proofs.traces.read_trace.Goals as goal
 use Rattle.run_data.proofs.traces.read_trace.Goals.{After-break_at}
+use Rattle.run_data.proofs.traces.read_trace.Goals as goal
 
 pub slice_bounds-read_events-count : goal.slice_bounds-read_events-count
 slice_bounds-read_events-count c =

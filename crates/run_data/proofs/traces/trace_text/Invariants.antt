@@ -1,7 +1,6 @@
 use Rattle.std.proofs.Common.{◌≡◌, map, take}
 use Rattle.std.specs.List.{flat_map}
-use Rattle.run_data.specs.TraceText.{event_line}
-use Rattle.run_data.specs.TraceFiles.{stamped_in}
+use Rattle.run_data.specs.Prelude.{event_line, stamped_in}
 use Rattle.run_data.proofs.traces.trace_text.Given as goal
 
 abbrev pub invariant-loop-line : goal.invariant-loop-line

@@ -1,5 +1,5 @@
 use Rattle.std.proofs.Common.{◌≡◌, ◌+◌, drop}
-use Rattle.src_tree.specs.Meaning.{variable_number}
+use Rattle.src_tree.specs.Prelude.{variable_number}
 use Rattle.scalar_ranges.proofs.names.number_of.Given as goal
 
 abbrev pub invariant-loop-i : goal.invariant-loop-i

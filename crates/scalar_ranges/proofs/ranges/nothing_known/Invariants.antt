@@ -1,5 +1,5 @@
 use Rattle.std.proofs.Common.{◌≡◌}
-use Rattle.scalar_ranges.specs.Known.{nothing_known}
+use Rattle.scalar_ranges.specs.Prelude.{nothing_known}
 use Rattle.scalar_ranges.proofs.ranges.nothing_known.Given as goal
 
 abbrev pub invariant-loop : goal.invariant-loop

@@ -1,6 +1,6 @@
 use Rattle.std.proofs.Common.{◌≡◌, drop}
-use Rattle.src_tree.specs.Trees.{block_of_all}
-use Rattle.scalar_ranges.specs.Known.{forgotten_block}
+use Rattle.src_tree.specs.Prelude.{block_of_all}
+use Rattle.scalar_ranges.specs.Prelude.{forgotten_block}
 use Rattle.scalar_ranges.proofs.statements.+forgetting.Given as goal
 
 abbrev pub invariant-forget_all-loop-statement : goal.invariant-forget_all-loop-statement

@@ -1,6 +1,6 @@
 use Rattle.std.proofs.Common.{◌≡◌, drop}
-use Rattle.src_tree.specs.Trees.{block_of_all}
-use Rattle.scalar_ranges.specs.Known.{after_block}
+use Rattle.src_tree.specs.Prelude.{block_of_all}
+use Rattle.scalar_ranges.specs.Prelude.{after_block}
 use Rattle.scalar_ranges.proofs.statements.pass_all.Given as goal
 
 abbrev pub invariant-loop-statement : goal.invariant-loop-statement

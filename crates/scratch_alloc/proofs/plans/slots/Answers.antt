@@ -1,5 +1,5 @@
 use Rattle.std.proofs.Common.{ap, ◌∙◌, arith}
-use Rattle.scratch_alloc.specs.Slots.{slots_of}
+use Rattle.scratch_alloc.specs.Prelude.{slots_of}
 use Rattle.scratch_alloc.proofs.SlotsBehind.{slots_more, slots_all}
 use Rattle.scratch_alloc.proofs.plans.slots.Goals as goal
 

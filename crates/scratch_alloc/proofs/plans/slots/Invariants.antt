@@ -1,5 +1,5 @@
 use Rattle.std.proofs.Common.{◌≡◌, ◌++◌, take, drop}
-use Rattle.scratch_alloc.specs.Slots.{slots_behind, slots_of}
+use Rattle.scratch_alloc.specs.Prelude.{slots_behind, slots_of}
 use Rattle.scratch_alloc.proofs.plans.slots.Given as goal
 
 abbrev pub invariant-loop-i : goal.invariant-loop-i

@@ -1,7 +1,6 @@
 use Rattle.std.proofs.Common.{◌≡◌, drop}
-use Rattle.src_tree.specs.Trees.{block_of_all}
-use Rattle.source_folding.specs.Folded.{folded_block}
-use Rattle.source_folding.specs.Numbers.{BlockNumbersFit}
+use Rattle.src_tree.specs.Prelude.{block_of_all}
+use Rattle.source_folding.specs.Prelude.{folded_block, BlockNumbersFit}
 use Rattle.source_folding.proofs.Joined.{joined}
 use Rattle.source_folding.proofs.programs.+folding.Given as goal
 

@@ -1,5 +1,5 @@
-use Rattle.src_tree.specs.Trees.{statement_of}
-use Rattle.source_meaning.specs.Placed.{action_of, left_with}
+use Rattle.src_tree.specs.Prelude.{statement_of}
+use Rattle.source_meaning.specs.Prelude.{action_of, left_with}
 use Rattle.source_meaning.proofs.PlacedMeaning.{placed_run}
 use Rattle.source_meaning.proofs.executing.+executing.Goals as goal
 

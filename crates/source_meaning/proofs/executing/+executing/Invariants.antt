@@ -1,8 +1,6 @@
 use Rattle.std.proofs.Common.{◌≡◌, drop}
-use Rattle.src_tree.specs.Meaning.{run_of_block}
-use Rattle.src_tree.specs.Trees.{block_of_all}
-use Rattle.source_meaning.specs.Kept.{KeepsFit}
-use Rattle.source_meaning.specs.Placed.{left_with}
+use Rattle.src_tree.specs.Prelude.{run_of_block, block_of_all}
+use Rattle.source_meaning.specs.Prelude.{KeepsFit, left_with}
 use Rattle.source_meaning.proofs.executing.+executing.Given as goal
 
 abbrev pub invariant-execute_block-loop-statement : goal.invariant-execute_block-loop-statement

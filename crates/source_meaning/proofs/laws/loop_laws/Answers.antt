@@ -1,4 +1,4 @@
-use Rattle.src_tree.specs.Meaning.{guard_holds, run_of_block}
+use Rattle.src_tree.specs.Prelude.{guard_holds, run_of_block}
 use Rattle.src_tree.proofs.Loops.{block_falls, loop_again, loop_ends, loop_spent}
 use Rattle.source_meaning.proofs.laws.loop_laws.Goals as goal
 

@@ -1,6 +1,6 @@
 use Rattle.std.proofs.Common.{◌≡◌, drop}
-use Rattle.src_tree.specs.Trees.{block_of_all}
-use Rattle.source_meaning.specs.Placed.{placed_block, actions_of_all, actions_joined}
+use Rattle.src_tree.specs.Prelude.{block_of_all}
+use Rattle.source_meaning.specs.Prelude.{placed_block, actions_of_all, actions_joined}
 use Rattle.source_meaning.proofs.placing.+placing.Given as goal
 
 abbrev pub invariant-place_block-loop-statement : goal.invariant-place_block-loop-statement

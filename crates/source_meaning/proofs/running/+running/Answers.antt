@@ -1,5 +1,5 @@
 use Rattle.std.proofs.Common.{◌<◌, sym, ◌∙◌, arith}
-use Rattle.source_meaning.specs.Placed.{placed_check, actions_of_all, holds_at, act_all}
+use Rattle.source_meaning.specs.Prelude.{placed_check, actions_of_all, holds_at, act_all}
 use Rattle.source_meaning.proofs.Keeping.{keeps_then}
 use Rattle.source_meaning.proofs.PlacedMeaning.{acts_fall}
 use Rattle.source_meaning.proofs.Turns.{ended, spent, onward}

@@ -1,7 +1,6 @@
 use Rattle.std.proofs.Common.{◌≡◌, ◌≤◌, drop}
-use Rattle.src_tree.specs.Meaning.{loop}
-use Rattle.source_meaning.specs.Kept.{KeepsFit}
-use Rattle.source_meaning.specs.Placed.{placed_check, actions_of_all, holds_at, act_all, left_with}
+use Rattle.src_tree.specs.Prelude.{loop}
+use Rattle.source_meaning.specs.Prelude.{KeepsFit, placed_check, actions_of_all, holds_at, act_all, left_with}
 use Rattle.source_meaning.proofs.running.+running.Given as goal
 
 abbrev pub invariant-run_loop-loop-turns : goal.invariant-run_loop-loop-turns

@@ -1,8 +1,8 @@
 use Rattle.std.proofs.Common.{ap, sym, ◌∙◌}
-use Rattle.spread_alloc.specs.Spread.{free_slots, spread_slots}
+use Rattle.spread_alloc.specs.Prelude.{free_slots, spread_slots}
 use Rattle.spread_alloc.proofs.OneSpread.{passed, taken}
-use Rattle.spread_alloc.proofs.spreading.free_slots.Goals as goal
 use Rattle.spread_alloc.proofs.spreading.free_slots.Goals.{then-is_free+in_ok-push, else-is_free}
+use Rattle.spread_alloc.proofs.spreading.free_slots.Goals as goal
 
 pub loop-slot-preserved : goal.loop-slot-preserved
 loop-slot-preserved c =

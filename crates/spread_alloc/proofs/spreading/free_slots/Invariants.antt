@@ -1,5 +1,5 @@
 use Rattle.std.proofs.Common.{◌≡◌, ◌++◌, drop}
-use Rattle.spread_alloc.specs.Spread.{free_among, free_slots, spread_slots}
+use Rattle.spread_alloc.specs.Prelude.{free_among, free_slots, spread_slots}
 use Rattle.spread_alloc.proofs.spreading.free_slots.Given as goal
 
 abbrev pub invariant-loop-slot : goal.invariant-loop-slot

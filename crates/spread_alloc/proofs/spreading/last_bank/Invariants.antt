@@ -1,6 +1,6 @@
 use Rattle.std.proofs.Common.{◌≡◌, ◌≤◌, drop}
 use Rattle.std.specs.Prelude.{max}
-use Rattle.spread_alloc.specs.Spread.{last_bank}
+use Rattle.spread_alloc.specs.Prelude.{last_bank}
 use Rattle.spread_alloc.proofs.spreading.last_bank.Given as goal
 
 abbrev pub invariant-loop-place : goal.invariant-loop-place

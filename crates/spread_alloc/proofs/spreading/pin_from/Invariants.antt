@@ -1,5 +1,5 @@
 use Rattle.std.proofs.Common.{◌≡◌, ◌+◌, drop}
-use Rattle.spread_alloc.specs.Spread.{pinned_from}
+use Rattle.spread_alloc.specs.Prelude.{pinned_from}
 use Rattle.spread_alloc.proofs.spreading.pin_from.Given as goal
 
 abbrev pub invariant-loop-i : goal.invariant-loop-i

@@ -1,6 +1,6 @@
 use Rattle.std.proofs.Common.{true, sym, subst}
-use Rattle.scratch_alloc.specs.Plans.{plan_from}
-use Rattle.spread_alloc.specs.SpreadFits.{PlanFits}
+use Rattle.scratch_alloc.specs.Prelude.{plan_from}
+use Rattle.spread_alloc.specs.Prelude.{PlanFits}
 use Rattle.spread_alloc.proofs.FitsSpread.{turn_fits}
 use Rattle.spread_alloc.proofs.spreading.spread.Goals as goal
 

@@ -1,5 +1,5 @@
 use Rattle.std.proofs.Common.{◌<◌, All, take, sym, subst, ◌∙◌}
-use Rattle.scratch_alloc.specs.Plans.{plan_from}
+use Rattle.scratch_alloc.specs.Prelude.{plan_from}
 use Rattle.spread_alloc.proofs.OneSpread.{chosen-few}
 use Rattle.spread_alloc.proofs.spreading.spread_one.Goals as goal
 

@@ -1,7 +1,6 @@
 use Rattle.std.proofs.Common.{◌≡◌, ◌<◌, length, ap, sym, subst, ◌∙◌, arith}
-use Rattle.scratch_alloc.specs.Plans.{Plan, plan_from}
-use Rattle.spread_alloc.specs.Spread.{spread_one}
-use Rattle.spread_alloc.specs.SpreadFits.{PlanFits}
+use Rattle.scratch_alloc.specs.Prelude.{Plan, plan_from}
+use Rattle.spread_alloc.specs.Prelude.{spread_one, PlanFits}
 use Rattle.spread_alloc.proofs.FitsSpread.{one_fits, one_places}
 use Rattle.spread_alloc.proofs.OneSpread.{each-next}
 use Rattle.spread_alloc.proofs.spreading.spread_turn.Goals as goal

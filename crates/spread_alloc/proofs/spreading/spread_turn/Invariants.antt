@@ -1,8 +1,7 @@
 use Rattle.std.proofs.Common.{◌≡◌, ◌-◌, length}
 use Rattle.std.specs.List.{range_with_len}
-use Rattle.scratch_alloc.specs.Plans.{plan_from}
-use Rattle.spread_alloc.specs.Spread.{spread_each, spread_turn}
-use Rattle.spread_alloc.specs.SpreadFits.{PlanFits}
+use Rattle.scratch_alloc.specs.Prelude.{plan_from}
+use Rattle.spread_alloc.specs.Prelude.{spread_each, spread_turn, PlanFits}
 use Rattle.spread_alloc.proofs.spreading.spread_turn.Given as goal
 
 abbrev pub invariant-loop-variable : goal.invariant-loop-variable

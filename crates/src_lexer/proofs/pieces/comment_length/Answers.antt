@@ -1,6 +1,6 @@
 use Rattle.std.proofs.Common.{◌-◌, arith, drop, take, length, length-take}
 use Rattle.std.proofs.lemmas.List.Sums.{prefix_len-le-length}
-use Rattle.src_lexer.specs.Pieces.{is_in_line}
+use Rattle.src_lexer.specs.Prelude.{is_in_line}
 use Rattle.src_lexer.proofs.pieces.comment_length.Goals as goal
 
 pub overflow_add-result : goal.overflow_add-result

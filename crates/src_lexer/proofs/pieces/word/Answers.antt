@@ -1,6 +1,6 @@
 use Rattle.std.proofs.Common.{◌≡◌, true, take, subst, sym}
 use Rattle.std.specs.List.{list_all}
-use Rattle.gr_word.specs.Names.{is_name_byte}
+use Rattle.gr_word.specs.Prelude.{is_name_byte}
 use Rattle.src_lexer.proofs.Longest.{prefix_each}
 use Rattle.src_lexer.proofs.pieces.word.Goals as goal
 

@@ -1,9 +1,8 @@
 use Rattle.std.proofs.Common.{◌-◌, ◌∷◌, drop, length, take, subst}
 use Rattle.std.specs.Prelude.{IfSome}
 use Rattle.src_lexer.specs.declared.tokens.TokenKind.TheVariants.{Word, Assign, LBracket}
-use Rattle.src_tree.specs.Trees.{statement_of}
-use Rattle.src_parser.specs.Assignments.{Adds}
-use Rattle.src_parser.specs.Refusals.{token_kinds}
+use Rattle.src_tree.specs.Prelude.{statement_of}
+use Rattle.src_parser.specs.Prelude.{Adds, token_kinds}
 use Rattle.src_parser.proofs.AssignmentTokens.{assignment_at}
 use Rattle.src_parser.proofs.assignments.assignment.Goals as goal
 

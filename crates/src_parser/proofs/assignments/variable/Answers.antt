@@ -1,9 +1,8 @@
 use Rattle.std.proofs.Common.{take, subst}
 use Rattle.std.specs.Prelude.{IfSome}
 use Rattle.src_lexer.specs.declared.tokens.TokenKind.TheVariants.{Semi}
-use Rattle.src_tree.specs.Trees.{expr_tree, statement_of}
-use Rattle.src_parser.specs.Assignments.{EndedBy}
-use Rattle.src_parser.specs.Refusals.{token_kinds}
+use Rattle.src_tree.specs.Prelude.{expr_tree, statement_of}
+use Rattle.src_parser.specs.Prelude.{EndedBy, token_kinds}
 use Rattle.src_parser.proofs.AssignmentTokens.{variable_at}
 use Rattle.src_parser.proofs.assignments.variable.Goals as goal
 

@@ -1,7 +1,6 @@
 use Rattle.std.proofs.Common.{◌≡◌, length}
-use Rattle.src_tree.specs.Trees.{expr_tree}
-use Rattle.src_parser.specs.Operands.{tree_joined}
-use Rattle.src_parser.specs.Seen.{stack_of}
+use Rattle.src_tree.specs.Prelude.{expr_tree}
+use Rattle.src_parser.specs.Prelude.{tree_joined, stack_of}
 use Rattle.src_parser.proofs.expressions.join.Given as goal
 
 abbrev pub invariant-loop-frame : goal.invariant-loop-frame

@@ -1,4 +1,4 @@
-use Rattle.src_parser.specs.Grammar.{limits}
+use Rattle.src_parser.specs.Prelude.{limits}
 use Rattle.src_parser.proofs.Places.{next_begins}
 use Rattle.src_parser.proofs.laws.no_refusal.Goals as goal
 

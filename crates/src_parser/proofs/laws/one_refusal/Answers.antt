@@ -1,10 +1,10 @@
 use Rattle.std.proofs.Common.{◌≡◌, ◌≢◌, List, refl, ap}
 use Rattle.src_lexer.specs.declared.tokens.Token.{Token}
 use Rattle.src_parser.specs.declared.errors.ParseError.{ParseError}
-use Rattle.src_parser.specs.declared.errors.ParseError.TheVariants as error
-use Rattle.src_parser.specs.Explained.{ExplainsTokens}
+use Rattle.src_parser.specs.Prelude.{ExplainsTokens}
 use Rattle.src_parser.proofs.OneRefusal.{one_stray, one_deeper, stray_or_deeper, stray_or_cut, deeper_or_cut}
 use Rattle.src_parser.proofs.Places.{stray, deeper, cut}
+use Rattle.src_parser.specs.declared.errors.ParseError.TheVariants as error
 use Rattle.src_parser.proofs.laws.one_refusal.Goals as goal
 
 same : (tokens : List Token) (a b : ParseError) → ExplainsTokens a tokens → ExplainsTokens b tokens

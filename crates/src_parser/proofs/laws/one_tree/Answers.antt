@@ -1,4 +1,4 @@
-use Rattle.src_parser.specs.Grammar.{limits}
+use Rattle.src_parser.specs.Prelude.{limits}
 use Rattle.src_parser.proofs.Refused.{one_tree}
 use Rattle.src_parser.proofs.laws.one_tree.Goals as goal
 

@@ -1,6 +1,6 @@
 use Rattle.std.proofs.Common.{◌≡◌, ◌+◌, ◌-◌, arith, drop, subst}
-use Rattle.src_tree.specs.Trees.{expr_tree}
-use Rattle.src_parser.specs.Expressions.{FoundExpression}
+use Rattle.src_tree.specs.Prelude.{expr_tree}
+use Rattle.src_parser.specs.Prelude.{FoundExpression}
 use Rattle.src_parser.proofs.lone_expressions.expr_at.Goals as goal
 
 pub returns-in-Ok-clause-found : goal.returns-in-Ok-clause-found

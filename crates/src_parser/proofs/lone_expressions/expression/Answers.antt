@@ -1,10 +1,7 @@
 use Rattle.std.proofs.Common.{◌≡◌, arith, sym, ap, ◌∙◌, Some, None}
 use Rattle.std.specs.Prelude.{option_map}
-use Rattle.src_tree.specs.Trees.{expr_tree}
-use Rattle.src_parser.specs.Grammar.{limits}
-use Rattle.src_parser.specs.Operands.{Moves, Stops, Deep, reads, whole}
-use Rattle.src_parser.specs.ReadTokens.{ended}
-use Rattle.src_parser.specs.Seen.{reading_of, step_of}
+use Rattle.src_tree.specs.Prelude.{expr_tree}
+use Rattle.src_parser.specs.Prelude.{limits, Moves, Stops, Deep, reads, whole, ended, reading_of, step_of}
 use Rattle.src_parser.proofs.ExpressionPlaces.{goes_at, found_at, stray_at, deep_at, cut_at, whole_at}
 use Rattle.src_parser.proofs.lone_expressions.expression.Goals as goal
 

@@ -1,9 +1,5 @@
 use Rattle.std.proofs.Common.{◌≡◌, take}
-use Rattle.src_parser.specs.Grammar.{limits}
-use Rattle.src_parser.specs.Operands.{Moves}
-use Rattle.src_parser.specs.Refusals.{token_kinds}
-use Rattle.src_parser.specs.ReadTokens.{reads_all}
-use Rattle.src_parser.specs.Seen.{reading_of}
+use Rattle.src_parser.specs.Prelude.{limits, Moves, token_kinds, reads_all, reading_of}
 use Rattle.src_parser.proofs.ReadTokens.{first}
 use Rattle.src_parser.proofs.lone_expressions.expression.Given as goal
 

@@ -1,8 +1,5 @@
 use Rattle.std.proofs.Common.{◌≡◌, arith, sym, ap, ◌∙◌}
-use Rattle.src_parser.specs.Grammar.{limits}
-use Rattle.src_parser.specs.Seen.{advance_of, state_of}
-use Rattle.src_parser.specs.Advances.{advanced}
-use Rattle.src_parser.specs.Tokenwise.{Goes, Wrong, TooMuch}
+use Rattle.src_parser.specs.Prelude.{limits, advance_of, state_of, advanced, Goes, Wrong, TooMuch}
 use Rattle.src_parser.proofs.SeveralTokens.{reads_more, reads_none, reads_token, stops_token, reads_all}
 use Rattle.src_parser.proofs.parsing.read_tokens.Goals as goal
 

@@ -1,7 +1,5 @@
 use Rattle.std.proofs.Common.{◌-◌, ◌≤◌, length, take}
-use Rattle.src_parser.specs.Seen.{state_of}
-use Rattle.src_parser.specs.Advances.{advanced}
-use Rattle.src_parser.specs.Readers.{ReadsTo}
+use Rattle.src_parser.specs.Prelude.{state_of, advanced, ReadsTo}
 use Rattle.src_parser.proofs.parsing.read_tokens.Given as goal
 
 abbrev pub invariant-loop-at : goal.invariant-loop-at

@@ -1,5 +1,5 @@
 use Rattle.std.proofs.Common.{ap, ◌∙◌}
-use Rattle.gr_word.specs.Names.{is_name}
+use Rattle.gr_word.specs.Prelude.{is_name}
 use Rattle.src_procs.proofs.NameFits.{new_name_fits}
 use Rattle.src_procs.proofs.binding.new_name.Goals as goal
 

@@ -1,6 +1,5 @@
 use Rattle.std.proofs.Common.{◌≡◌, drop, map}
-use Rattle.src_procs.specs.Needed.{with_kept}
-use Rattle.src_procs.specs.Views.{binding_of, names_of, placed_of, trees_seen}
+use Rattle.src_procs.specs.Prelude.{with_kept, binding_of, names_of, placed_of, trees_seen}
 use Rattle.src_procs.proofs.binding.with_kept.Given as goal
 
 abbrev pub invariant-loop-k : goal.invariant-loop-k

@@ -1,8 +1,6 @@
 use Rattle.std.proofs.Common.{◌≡◌, drop, map}
-use Rattle.gr_base.specs.NameMaps.{found_under}
-use Rattle.src_procs.specs.InlineFaults.{calls_walked_all}
-use Rattle.src_procs.specs.Numbered.{procedure_by_number}
-use Rattle.src_procs.specs.Seen.{block_of_all, procedure_of}
+use Rattle.gr_base.specs.Prelude.{found_under}
+use Rattle.src_procs.specs.Prelude.{calls_walked_all, procedure_by_number, block_of_all, procedure_of}
 use Rattle.src_procs.proofs.call_faults.+calls.Given as goal
 
 abbrev pub invariant-walk_block-loop-statement : goal.invariant-walk_block-loop-statement

@@ -1,14 +1,9 @@
 use Rattle.std.proofs.Common.{List, Option, map, sym, ap, ◌∙◌}
 use Rattle.std.proofs.lemmas.List.{get_or-map}
 use Rattle.src_procs.specs.declared.trees.Param.{Param}
-use Rattle.src_procs.specs.InlineFaults.{arguments_fault, call_fault}
-use Rattle.gr_base.specs.NameMaps.{found_under}
+use Rattle.src_procs.specs.Prelude.{arguments_fault, call_fault, Found, by_number, Procedure, parameter_of, procedure_of, trees_of, no_procedure}
+use Rattle.gr_base.specs.Prelude.{found_under}
 use Rattle.std.specs.Option.{option_map}
-use Rattle.src_procs.specs.Expanding.{Found}
-use Rattle.src_procs.specs.Numbered.{by_number}
-use Rattle.src_procs.specs.Trees.{Procedure}
-use Rattle.src_procs.specs.Seen.{parameter_of, procedure_of, trees_of}
-use Rattle.src_procs.specs.Views.{no_procedure}
 use Rattle.src_procs.proofs.call_faults.call_fault.Goals as goal
 
 pub returns-in-None : goal.returns-in-None

@@ -1,6 +1,5 @@
 use Rattle.std.proofs.Common.{◌≡◌, drop, map}
-use Rattle.src_procs.specs.InlineFaults.{lacks_name}
-use Rattle.src_procs.specs.Seen.{parameter_of, trees_of}
+use Rattle.src_procs.specs.Prelude.{lacks_name, parameter_of, trees_of}
 use Rattle.src_procs.proofs.call_faults.lacks_name.Given as goal
 
 abbrev pub invariant-loop-i : goal.invariant-loop-i

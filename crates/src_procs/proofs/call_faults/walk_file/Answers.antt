@@ -1,9 +1,7 @@
 use Rattle.std.proofs.Common.{ℕ, Result, map, reverse, sym, ap, ◌∙◌}
-use Rattle.gr_base.specs.NameMaps.{found_under}
-use Rattle.gr_base.specs.Results.{◌>>=◌}
+use Rattle.gr_base.specs.Prelude.{found_under, ◌>>=◌}
 use Rattle.src_procs.specs.declared.errors.InlineError.{InlineError}
-use Rattle.src_procs.specs.InlineFaults.{calls_walked_all, procedure_named}
-use Rattle.src_procs.specs.Seen.{block_of_all, procedure_of}
+use Rattle.src_procs.specs.Prelude.{calls_walked_all, procedure_named, block_of_all, procedure_of}
 use Rattle.src_procs.proofs.CallsWalked.{all_called}
 use Rattle.src_procs.proofs.call_faults.walk_file.Goals as goal
 

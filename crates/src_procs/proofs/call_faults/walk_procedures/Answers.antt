@@ -1,12 +1,9 @@
 use Rattle.std.proofs.Common.{◌+◌, List, map, take, reverse, get_or, sym, ap, ◌∙◌, arith}
 use Rattle.std.proofs.lemmas.List.{drop-map, get_or-map, length-map}
 use Rattle.std.proofs.lemmas.Result.{err_from_is_err_and}
-use Rattle.gr_base.specs.NameMaps.{found_under}
+use Rattle.gr_base.specs.Prelude.{found_under}
 use Rattle.src_procs.specs.declared.trees.PStmt.{PStmt}
-use Rattle.src_procs.specs.InlineFaults.{calls_walked_all, procedure_named, procedures_walked}
-use Rattle.src_procs.specs.Seen.{block_of_all, procedure_of}
-use Rattle.src_procs.specs.Trees.{Procedure}
-use Rattle.src_procs.specs.Views.{no_procedure}
+use Rattle.src_procs.specs.Prelude.{calls_walked_all, procedure_named, procedures_walked, block_of_all, procedure_of, Procedure, no_procedure}
 use Rattle.src_procs.proofs.CallsWalked.{same_called, walked_fails, walked_more}
 use Rattle.src_procs.proofs.call_faults.walk_procedures.Goals as goal
 

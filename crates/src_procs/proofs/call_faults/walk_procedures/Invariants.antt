@@ -1,6 +1,5 @@
 use Rattle.std.proofs.Common.{◌≡◌, [], drop, map, reverse, take}
-use Rattle.src_procs.specs.InlineFaults.{procedures_walked}
-use Rattle.src_procs.specs.Seen.{procedure_of}
+use Rattle.src_procs.specs.Prelude.{procedures_walked, procedure_of}
 use Rattle.src_procs.proofs.call_faults.walk_procedures.Given as goal
 
 abbrev pub invariant-loop-i : goal.invariant-loop-i

@@ -1,11 +1,7 @@
 use Rattle.std.proofs.Common.{◌+◌, map, sym, ap, ◌∙◌, subst, arith}
 use Rattle.std.proofs.lemmas.List.{get_or-map, length-map}
-use Rattle.gr_base.specs.NameMaps.{found_under}
-use Rattle.src_procs.specs.CallMeaning.{Names}
-use Rattle.src_procs.specs.InlineFaults.{numbered}
-use Rattle.src_procs.specs.Seen.{procedure_of}
-use Rattle.src_procs.specs.Trees.{Procedure}
-use Rattle.src_procs.specs.Views.{no_procedure}
+use Rattle.gr_base.specs.Prelude.{found_under}
+use Rattle.src_procs.specs.Prelude.{Names, numbered, procedure_of, Procedure, no_procedure}
 use Rattle.src_procs.proofs.NumbersAdded.{AreSoFar, all_so_far, one_more_so_far}
 use Rattle.src_procs.proofs.finding.numbers_of.Goals as goal
 

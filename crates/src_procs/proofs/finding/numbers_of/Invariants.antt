@@ -1,6 +1,6 @@
 use Rattle.std.proofs.Common.{map}
-use Rattle.gr_base.specs.NameMaps.{found_under}
-use Rattle.src_procs.specs.Seen.{procedure_of}
+use Rattle.gr_base.specs.Prelude.{found_under}
+use Rattle.src_procs.specs.Prelude.{procedure_of}
 use Rattle.src_procs.proofs.NumbersAdded.{AreSoFar}
 use Rattle.src_procs.proofs.finding.numbers_of.Given as goal
 

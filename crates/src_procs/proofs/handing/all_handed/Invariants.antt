@@ -1,6 +1,5 @@
 use Rattle.std.proofs.Common.{◌≡◌, Some, map, take}
-use Rattle.src_procs.specs.Handed.{arguments_under, handed}
-use Rattle.src_procs.specs.Views.{trees_seen}
+use Rattle.src_procs.specs.Prelude.{arguments_under, handed, trees_seen}
 use Rattle.src_procs.proofs.handing.all_handed.Given as goal
 
 abbrev pub invariant-loop-e : goal.invariant-loop-e

@@ -1,7 +1,5 @@
 use Rattle.std.proofs.Common.{◌≡◌, ◌-◌, drop, length, map}
-use Rattle.src_procs.specs.Handed.{argument_of, arguments_under}
-use Rattle.src_procs.specs.Seen.{parameter_of}
-use Rattle.src_procs.specs.Views.{trees_seen}
+use Rattle.src_procs.specs.Prelude.{argument_of, arguments_under, parameter_of, trees_seen}
 use Rattle.src_procs.proofs.handing.by_name.Given as goal
 
 abbrev pub invariant-loop-i : goal.invariant-loop-i

@@ -1,7 +1,7 @@
 use Rattle.std.proofs.Common.{sym, ap, ◌∙◌}
 use Rattle.std.specs.Option.{option_map}
-use Rattle.src_tree.specs.Trees.{expr_tree}
-use Rattle.src_procs.specs.Handed.{argument_seen, arguments_under, handed}
+use Rattle.src_tree.specs.Prelude.{expr_tree}
+use Rattle.src_procs.specs.Prelude.{argument_seen, arguments_under, handed}
 use Rattle.src_procs.proofs.HandedOn.{handed_so}
 use Rattle.src_procs.proofs.handing.handed.Goals as goal
 

@@ -3,14 +3,8 @@ use Rattle.std.specs.Prelude.{IfSome}
 use Rattle.std.proofs.lemmas.List.{get_or-map, length-map}
 use Rattle.std.proofs.lemmas.Option.{IfSome_then}
 use Rattle.std.proofs.lemmas.Result.{IfOk-weaker}
-use Rattle.gr_base.specs.NameMaps.{found_under}
-use Rattle.src_procs.specs.Needed.{LiveBody, no_body}
-use Rattle.src_procs.specs.Expanding.{Found, found}
-use Rattle.src_procs.specs.Handed.{HandsOn, SameStatement}
-use Rattle.src_procs.specs.Pruned.{SameCode}
-use Rattle.src_procs.specs.Seen.{procedure_of}
-use Rattle.src_procs.specs.Trees.{Block, Call, Nothing, Then, Procedure}
-use Rattle.src_procs.specs.Views.{body_of, live_block, live_of, no_procedure, trees_seen}
+use Rattle.gr_base.specs.Prelude.{found_under}
+use Rattle.src_procs.specs.Prelude.{LiveBody, no_body, Found, found, HandsOn, SameStatement, SameCode, procedure_of, Block, Call, Nothing, Then, Procedure, body_of, live_block, live_of, no_procedure, trees_seen}
 use Rattle.src_procs.proofs.HandedOn.{comes_down}
 use Rattle.src_procs.proofs.NumbersAdded.{found_so, still_found}
 use Rattle.src_procs.proofs.handing.passed_on.Goals as goal

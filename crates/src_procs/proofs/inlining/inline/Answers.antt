@@ -1,11 +1,9 @@
 use Rattle.std.proofs.Common.{◌≡◌, List, sym, ap, ◌∙◌}
-use Rattle.src_tree.specs.Trees.{source_of}
+use Rattle.src_tree.specs.Prelude.{source_of}
 use Rattle.std.proofs.lemmas.Result.{err_from_is_err_and}
 use Rattle.src_procs.specs.declared.trees.PStmt.{PStmt}
 use Rattle.src_procs.specs.declared.trees.Proc.{Proc}
-use Rattle.src_procs.specs.InlineFaults.{inline_fault}
-use Rattle.src_procs.specs.Seen.{file_of}
-use Rattle.src_procs.specs.Views.{bare_file}
+use Rattle.src_procs.specs.Prelude.{inline_fault, file_of, bare_file}
 use Rattle.src_procs.proofs.CallCauses.{not-caused}
 use Rattle.src_procs.proofs.Judged.{found_explains, kept_for}
 use Rattle.src_procs.proofs.OwnSteps.{own_program}

@@ -1,13 +1,10 @@
 use Rattle.std.proofs.Common.{◌≡◌, List, length, map, reverse, sym, ap, ◌∙◌, arith}
 use Rattle.std.proofs.lemmas.List.{length-map, take_all}
-use Rattle.src_tree.specs.FirstFault.{shown_number}
-use Rattle.src_procs.specs.Seen.{block_of_all, procedure_of}
-use Rattle.src_procs.specs.Sizes.{sizes_of, size_of_all, file_size}
-use Rattle.src_procs.specs.Trees.{Procedure}
-use Rattle.src_procs.specs.Views.{bare_file}
+use Rattle.src_tree.specs.Prelude.{shown_number}
+use Rattle.src_procs.specs.Prelude.{block_of_all, procedure_of, sizes_of, size_of_all, file_size, Procedure, bare_file}
 use Rattle.src_procs.proofs.Judged.{by_size, by_nothing}
-use Rattle.src_procs.proofs.inlining.judge.Goals as goal
 use Rattle.src_procs.proofs.inlining.judge.Goals.{After-block_size}
+use Rattle.src_procs.proofs.inlining.judge.Goals as goal
 
 sized : (c : After-block_size)
     → c.block_size.result ≡ shown_number (file_size (bare_file c.args.procs.now c.args.body.now))

@@ -1,10 +1,6 @@
 use Rattle.std.proofs.Common.{◌≤◌, map, length, arith}
-use Rattle.gr_base.specs.NameMaps.{found_under}
-use Rattle.src_procs.specs.Measured.{sizes_by}
-use Rattle.src_procs.specs.Numbered.{by_number}
-use Rattle.src_procs.specs.Pruned.{pruned}
-use Rattle.src_procs.specs.Seen.{block_of_all, procedure_of}
-use Rattle.src_procs.specs.Views.{live_of}
+use Rattle.gr_base.specs.Prelude.{found_under}
+use Rattle.src_procs.specs.Prelude.{sizes_by, by_number, pruned, block_of_all, procedure_of, live_of}
 use Rattle.src_procs.proofs.Pruning.{all_behind}
 use Rattle.src_procs.proofs.live.+live.Goals as goal
 

@@ -1,10 +1,6 @@
 use Rattle.std.proofs.Common.{◌≡◌, drop, map}
-use Rattle.gr_base.specs.NameMaps.{found_under}
-use Rattle.src_procs.specs.Measured.{sizes_by}
-use Rattle.src_procs.specs.Numbered.{by_number}
-use Rattle.src_procs.specs.Pruned.{behind, pruned}
-use Rattle.src_procs.specs.Seen.{block_of_all, procedure_of}
-use Rattle.src_procs.specs.Views.{live_of}
+use Rattle.gr_base.specs.Prelude.{found_under}
+use Rattle.src_procs.specs.Prelude.{sizes_by, by_number, behind, pruned, block_of_all, procedure_of, live_of}
 use Rattle.src_procs.proofs.live.+live.Given as goal
 
 abbrev pub invariant-live_all-loop-statement : goal.invariant-live_all-loop-statement

@@ -1,6 +1,5 @@
 use Rattle.std.proofs.Common.{◌≡◌, ◌++◌, drop}
-use Rattle.src_procs.specs.Seen.{trees_of}
-use Rattle.src_procs.specs.Views.{trees_seen}
+use Rattle.src_procs.specs.Prelude.{trees_of, trees_seen}
 use Rattle.src_procs.proofs.live.each.Given as goal
 
 abbrev pub invariant-loop-argument : goal.invariant-loop-argument

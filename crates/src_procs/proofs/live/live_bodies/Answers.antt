@@ -1,8 +1,6 @@
 use Rattle.std.proofs.Common.{List, map, sym, subst, arith}
 use Rattle.src_procs.specs.declared.needed.Body.{Body}
-use Rattle.src_procs.specs.Pruned.{ArePruned}
-use Rattle.src_procs.specs.Seen.{procedure_of}
-use Rattle.src_procs.specs.Views.{bodies_of}
+use Rattle.src_procs.specs.Prelude.{ArePruned, procedure_of, bodies_of}
 use Rattle.src_procs.proofs.Pruning.{one_live_more}
 use Rattle.src_procs.proofs.live.live_bodies.Goals as goal
 

@@ -1,7 +1,5 @@
 use Rattle.std.proofs.Common.{◌≡◌, length, map}
-use Rattle.src_procs.specs.Pruned.{ArePruned}
-use Rattle.src_procs.specs.Seen.{procedure_of}
-use Rattle.src_procs.specs.Views.{bodies_of}
+use Rattle.src_procs.specs.Prelude.{ArePruned, procedure_of, bodies_of}
 use Rattle.src_procs.proofs.live.live_bodies.Given as goal
 
 abbrev pub invariant-loop-i : goal.invariant-loop-i

@@ -1,7 +1,6 @@
 use Rattle.std.proofs.Common.{map}
-use Rattle.gr_base.specs.NameMaps.{found_under}
-use Rattle.src_procs.specs.Seen.{block_of_all, procedure_of}
-use Rattle.src_procs.specs.Views.{live_block}
+use Rattle.gr_base.specs.Prelude.{found_under}
+use Rattle.src_procs.specs.Prelude.{block_of_all, procedure_of, live_block}
 use Rattle.src_procs.proofs.Pruning.{left_same}
 use Rattle.src_procs.proofs.live.live_statements.Goals as goal
 

@@ -1,9 +1,6 @@
 use Rattle.std.proofs.Common.{◌≡◌, drop, map}
-use Rattle.gr_base.specs.NameMaps.{found_under}
-use Rattle.src_procs.specs.Needed.{kept_by, marked_all}
-use Rattle.src_procs.specs.Numbered.{by_number}
-use Rattle.src_procs.specs.Seen.{procedure_of}
-use Rattle.src_procs.specs.Views.{bodies_of, live_block}
+use Rattle.gr_base.specs.Prelude.{found_under}
+use Rattle.src_procs.specs.Prelude.{kept_by, marked_all, by_number, procedure_of, bodies_of, live_block}
 use Rattle.src_procs.proofs.needed.+needed.Given as goal
 
 abbrev pub invariant-mark_all-loop-statement : goal.invariant-mark_all-loop-statement

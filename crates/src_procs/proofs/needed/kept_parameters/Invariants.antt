@@ -1,8 +1,6 @@
 use Rattle.std.proofs.Common.{◌≡◌, ◌++◌, drop, map}
-use Rattle.gr_base.specs.NameMaps.{found_under}
-use Rattle.src_procs.specs.Needed.{kept_from}
-use Rattle.src_procs.specs.Seen.{parameter_of}
-use Rattle.src_procs.specs.Views.{placed_of}
+use Rattle.gr_base.specs.Prelude.{found_under}
+use Rattle.src_procs.specs.Prelude.{kept_from, parameter_of, placed_of}
 use Rattle.src_procs.proofs.needed.kept_parameters.Given as goal
 
 abbrev pub invariant-loop-i : goal.invariant-loop-i

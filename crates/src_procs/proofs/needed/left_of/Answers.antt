@@ -1,11 +1,8 @@
 use Rattle.std.proofs.Common.{List, map, ap, ◌∙◌}
-use Rattle.gr_base.specs.NameMaps.{found_under}
+use Rattle.gr_base.specs.Prelude.{found_under}
 use Rattle.src_procs.specs.declared.live.Live.{Live}
 use Rattle.src_procs.specs.declared.trees.Param.{Param}
-use Rattle.src_procs.specs.Needed.{kept_by, kept_from, marked_all}
-use Rattle.src_procs.specs.Numbered.{by_number}
-use Rattle.src_procs.specs.Seen.{parameter_of, procedure_of}
-use Rattle.src_procs.specs.Views.{bodies_of, body_of, live_block}
+use Rattle.src_procs.specs.Prelude.{kept_by, kept_from, marked_all, by_number, parameter_of, procedure_of, bodies_of, body_of, live_block}
 use Rattle.src_procs.proofs.NeededNames.{as_long, left_pruned}
 use Rattle.src_procs.proofs.needed.left_of.Goals as goal
 

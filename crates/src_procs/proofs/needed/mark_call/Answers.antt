@@ -1,8 +1,6 @@
 use Rattle.std.proofs.Common.{map, ap, ◌∙◌}
-use Rattle.gr_base.specs.NameMaps.{found_under}
-use Rattle.src_procs.specs.Numbered.{by_number}
-use Rattle.src_procs.specs.Seen.{procedure_of}
-use Rattle.src_procs.specs.Views.{trees_seen}
+use Rattle.gr_base.specs.Prelude.{found_under}
+use Rattle.src_procs.specs.Prelude.{by_number, procedure_of, trees_seen}
 use Rattle.src_procs.proofs.NeededNames.{none_marked}
 use Rattle.src_procs.proofs.needed.mark_call.Goals as goal
 

@@ -1,7 +1,6 @@
 use Rattle.std.proofs.Common.{◌≡◌, drop, map}
-use Rattle.gr_base.specs.NameMaps.{found_under}
-use Rattle.src_procs.specs.Needed.{marked_kept}
-use Rattle.src_procs.specs.Views.{placed_of, trees_seen}
+use Rattle.gr_base.specs.Prelude.{found_under}
+use Rattle.src_procs.specs.Prelude.{marked_kept, placed_of, trees_seen}
 use Rattle.src_procs.proofs.needed.mark_kept.Given as goal
 
 abbrev pub invariant-loop-k : goal.invariant-loop-k

@@ -1,7 +1,6 @@
 use Rattle.std.proofs.Common.{◌≡◌, drop}
-use Rattle.gr_base.specs.NameMaps.{found_under}
-use Rattle.src_procs.specs.InlineFaults.{knows_block}
-use Rattle.src_procs.specs.Seen.{block_of_all}
+use Rattle.gr_base.specs.Prelude.{found_under}
+use Rattle.src_procs.specs.Prelude.{knows_block, block_of_all}
 use Rattle.src_procs.proofs.own_names.+known.Given as goal
 
 abbrev pub invariant-knows_block-loop-statement : goal.invariant-knows_block-loop-statement

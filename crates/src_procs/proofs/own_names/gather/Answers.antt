@@ -1,5 +1,5 @@
 use Rattle.std.proofs.Common.{sym, ◌∙◌, arith}
-use Rattle.gr_base.specs.NameMaps.{found_under}
+use Rattle.gr_base.specs.Prelude.{found_under}
 use Rattle.src_procs.proofs.NamesAdded.{named_twice}
 use Rattle.src_procs.proofs.own_names.gather.Goals as goal
 

@@ -1,7 +1,6 @@
 use Rattle.std.proofs.Common.{◌≡◌, drop}
-use Rattle.gr_base.specs.NameMaps.{found_under}
-use Rattle.src_procs.specs.InlineFaults.{none_named, numbered_all}
-use Rattle.src_procs.specs.Views.{names_seen}
+use Rattle.gr_base.specs.Prelude.{found_under}
+use Rattle.src_procs.specs.Prelude.{none_named, numbered_all, names_seen}
 use Rattle.src_procs.proofs.own_names.gather.Given as goal
 
 abbrev pub invariant-loop-i : goal.invariant-loop-i

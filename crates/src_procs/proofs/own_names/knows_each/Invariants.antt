@@ -1,7 +1,6 @@
 use Rattle.std.proofs.Common.{◌≡◌, drop}
-use Rattle.gr_base.specs.NameMaps.{found_under}
-use Rattle.src_procs.specs.InlineFaults.{knows_each}
-use Rattle.src_procs.specs.Seen.{trees_of}
+use Rattle.gr_base.specs.Prelude.{found_under}
+use Rattle.src_procs.specs.Prelude.{knows_each, trees_of}
 use Rattle.src_procs.proofs.own_names.knows_each.Given as goal
 
 abbrev pub invariant-loop-e : goal.invariant-loop-e

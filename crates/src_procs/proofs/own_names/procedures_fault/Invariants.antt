@@ -1,7 +1,6 @@
 use Rattle.std.proofs.Common.{◌≡◌, drop, map}
-use Rattle.gr_base.specs.NameMaps.{found_under}
-use Rattle.src_procs.specs.InlineFaults.{none_named, procedures_fault}
-use Rattle.src_procs.specs.Seen.{procedure_of}
+use Rattle.gr_base.specs.Prelude.{found_under}
+use Rattle.src_procs.specs.Prelude.{none_named, procedures_fault, procedure_of}
 use Rattle.src_procs.proofs.own_names.procedures_fault.Given as goal
 
 abbrev pub invariant-loop-i : goal.invariant-loop-i

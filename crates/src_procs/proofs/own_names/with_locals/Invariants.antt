@@ -1,6 +1,5 @@
 use Rattle.std.proofs.Common.{◌≡◌, ◌++◌, drop, map}
-use Rattle.src_procs.specs.InlineFaults.{local_name}
-use Rattle.src_procs.specs.Views.{names_seen}
+use Rattle.src_procs.specs.Prelude.{local_name, names_seen}
 use Rattle.src_procs.proofs.own_names.with_locals.Given as goal
 
 abbrev pub invariant-loop-local : goal.invariant-loop-local

@@ -1,7 +1,5 @@
 use Rattle.std.proofs.Common.{◌≡◌, ◌++◌, drop, map}
-use Rattle.src_procs.specs.CallCauses.{parameter_name}
-use Rattle.src_procs.specs.Seen.{parameter_of}
-use Rattle.src_procs.specs.Views.{names_seen}
+use Rattle.src_procs.specs.Prelude.{parameter_name, parameter_of, names_seen}
 use Rattle.src_procs.proofs.own_names.with_parameters.Given as goal
 
 abbrev pub invariant-loop-param : goal.invariant-loop-param

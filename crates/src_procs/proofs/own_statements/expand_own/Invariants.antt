@@ -1,7 +1,5 @@
 use Rattle.std.proofs.Common.{◌≡◌}
-use Rattle.src_procs.specs.Expanding.{expanded, finished}
-use Rattle.src_procs.specs.Seen.{block_of_all}
-use Rattle.src_procs.specs.Views.{own_held, owns_all}
+use Rattle.src_procs.specs.Prelude.{expanded, finished, block_of_all, own_held, owns_all}
 use Rattle.src_procs.proofs.own_statements.expand_own.Given as goal
 
 abbrev pub invariant-loop : goal.invariant-loop

@@ -1,8 +1,7 @@
 use Rattle.std.proofs.Common.{◌≡◌, [], ◌∷◌}
 use Rattle.std.proofs.lemmas.Result.{on_ok_weaker}
-use Rattle.src_tree.specs.Trees.{test_of}
-use Rattle.src_procs.specs.Seen.{block_of_all}
-use Rattle.src_procs.specs.Views.{blocks_of, owns_all}
+use Rattle.src_tree.specs.Prelude.{test_of}
+use Rattle.src_procs.specs.Prelude.{block_of_all, blocks_of, owns_all}
 use Rattle.src_procs.proofs.OwnSteps.{own_loop}
 use Rattle.src_procs.proofs.own_statements.repeat.Goals as goal
 

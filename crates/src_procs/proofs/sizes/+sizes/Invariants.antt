@@ -1,10 +1,7 @@
 use Rattle.std.proofs.Common.{◌≡◌, ◌+◌, ◌-◌, ◌^◌, ◌≤◌, drop, map}
-use Rattle.src_tree.specs.FirstFault.{shown_number}
-use Rattle.gr_base.specs.NameMaps.{found_under}
-use Rattle.src_procs.specs.Measured.{sizes_by}
-use Rattle.src_procs.specs.Numbered.{by_number}
-use Rattle.src_procs.specs.Seen.{block_of_all, procedure_of}
-use Rattle.src_procs.specs.Sizes.{size_of_all}
+use Rattle.src_tree.specs.Prelude.{shown_number}
+use Rattle.gr_base.specs.Prelude.{found_under}
+use Rattle.src_procs.specs.Prelude.{sizes_by, by_number, block_of_all, procedure_of, size_of_all}
 use Rattle.src_procs.proofs.sizes.+sizes.Given as goal
 
 abbrev pub invariant-block_count-loop-statement : goal.invariant-block_count-loop-statement

@@ -1,6 +1,6 @@
 use Rattle.std.proofs.Common.{map, ◌∙◌}
-use Rattle.gr_base.specs.NameMaps.{found_under}
-use Rattle.src_procs.specs.Seen.{block_of_all, procedure_of}
+use Rattle.gr_base.specs.Prelude.{found_under}
+use Rattle.src_procs.specs.Prelude.{block_of_all, procedure_of}
 use Rattle.src_procs.proofs.Measured.{same_block}
 use Rattle.src_procs.proofs.sizes.block_size.Goals as goal
 

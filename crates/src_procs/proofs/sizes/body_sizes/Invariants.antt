@@ -1,6 +1,5 @@
 use Rattle.std.proofs.Common.{◌≡◌, length, map}
-use Rattle.src_procs.specs.Measured.{AreSizes}
-use Rattle.src_procs.specs.Seen.{procedure_of}
+use Rattle.src_procs.specs.Prelude.{AreSizes, procedure_of}
 use Rattle.src_procs.proofs.sizes.body_sizes.Given as goal
 
 abbrev pub invariant-loop-i : goal.invariant-loop-i

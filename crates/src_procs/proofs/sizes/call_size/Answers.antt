@@ -1,13 +1,10 @@
 use Rattle.std.proofs.Common.{◌+◌, ◌-◌, ◌^◌, min, List, map, length, sym, ap, ◌∙◌}
 use Rattle.std.proofs.lemmas.List.{get_or-map}
-use Rattle.src_tree.specs.FirstFault.{shown_number}
+use Rattle.src_tree.specs.Prelude.{shown_number}
 use Rattle.src_tree.specs.declared.trees.Decl.{Decl}
 use Rattle.src_procs.specs.declared.trees.Param.{Param}
-use Rattle.gr_base.specs.NameMaps.{found_under}
-use Rattle.src_procs.specs.Numbered.{by_number}
-use Rattle.src_procs.specs.Frames.{new_values}
-use Rattle.src_procs.specs.Seen.{parameter_of, procedure_of, trees_of}
-use Rattle.src_procs.specs.Views.{no_procedure}
+use Rattle.gr_base.specs.Prelude.{found_under}
+use Rattle.src_procs.specs.Prelude.{by_number, new_values, parameter_of, procedure_of, trees_of, no_procedure}
 use Rattle.src_procs.proofs.Measured.{counted_found, counted_none}
 use Rattle.src_procs.proofs.sizes.call_size.Goals as goal
 

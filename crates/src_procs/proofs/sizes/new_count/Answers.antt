@@ -1,8 +1,7 @@
 use Rattle.std.proofs.Common.{List, map, ap, ◌∙◌}
-use Rattle.src_tree.specs.FirstFault.{shown_number}
+use Rattle.src_tree.specs.Prelude.{shown_number}
 use Rattle.src_procs.specs.declared.trees.Param.{Param}
-use Rattle.src_procs.specs.Measured.{scalars}
-use Rattle.src_procs.specs.Seen.{parameter_of}
+use Rattle.src_procs.specs.Prelude.{scalars, parameter_of}
 use Rattle.src_procs.proofs.Measured.{counted_new}
 use Rattle.src_procs.proofs.sizes.new_count.Goals as goal
 

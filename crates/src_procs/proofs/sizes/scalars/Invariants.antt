@@ -1,7 +1,6 @@
 use Rattle.std.proofs.Common.{◌≡◌, ◌+◌, ◌-◌, ◌^◌, ◌≤◌, drop, map}
-use Rattle.src_tree.specs.FirstFault.{shown_number}
-use Rattle.src_procs.specs.Measured.{scalars}
-use Rattle.src_procs.specs.Seen.{parameter_of}
+use Rattle.src_tree.specs.Prelude.{shown_number}
+use Rattle.src_procs.specs.Prelude.{scalars, parameter_of}
 use Rattle.src_procs.proofs.sizes.scalars.Given as goal
 
 abbrev pub invariant-loop-param : goal.invariant-loop-param

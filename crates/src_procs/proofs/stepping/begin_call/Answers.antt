@@ -1,10 +1,7 @@
 use Rattle.std.proofs.Common.{◌≡◌, map, take, reverse}
 use Rattle.std.proofs.lemmas.Result.{on_ok_weaker}
 use Rattle.src_procs.specs.declared.scopes.Naming.TheVariants.{Bound}
-use Rattle.src_procs.specs.Expanding.{with_locals, with_scope}
-use Rattle.src_procs.specs.Needed.{with_kept}
-use Rattle.src_procs.specs.Seen.{procedure_of}
-use Rattle.src_procs.specs.Views.{binding_of, held_of, names_of, placed_of, scope_of, trees_seen, unbound}
+use Rattle.src_procs.specs.Prelude.{with_locals, with_scope, with_kept, procedure_of, binding_of, held_of, names_of, placed_of, scope_of, trees_seen, unbound}
 use Rattle.src_procs.proofs.NeededBindings.{begun_so}
 use Rattle.src_procs.proofs.stepping.begin_call.Goals as goal
 

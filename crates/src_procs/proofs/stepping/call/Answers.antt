@@ -1,16 +1,11 @@
 use Rattle.std.proofs.Common.{◌≡◌, ◌<◌, List, ◌∷◌, Some, None, length, map, take, reverse, get_or, sym, subst, ap, ◌∙◌, arith}
 use Rattle.std.proofs.lemmas.List.{get_or-map, length-map}
 use Rattle.std.proofs.lemmas.Result.{on_ok_weaker}
-use Rattle.gr_base.specs.NameMaps.{found_under}
+use Rattle.gr_base.specs.Prelude.{found_under}
 use Rattle.src_procs.specs.declared.live.Live.{Live}
-use Rattle.src_procs.specs.Expanding.{finished, Found, Rest, Return, with_locals, with_scope}
+use Rattle.src_procs.specs.Prelude.{finished, Found, Rest, Return, with_locals, with_scope, LiveBody, begun_by, no_body, with_kept, IsPruned, procedure_of, Procedure, body_of, held_of, live_block, pending_all, placed_of, scope_of, no_procedure, trees_seen, unbound}
 use Rattle.src_tree.specs.declared.trees.Decl.{Decl}
 use Rattle.src_procs.specs.declared.needed.Kept.{Kept}
-use Rattle.src_procs.specs.Needed.{LiveBody, begun_by, no_body, with_kept}
-use Rattle.src_procs.specs.Pruned.{IsPruned}
-use Rattle.src_procs.specs.Seen.{procedure_of}
-use Rattle.src_procs.specs.Trees.{Procedure}
-use Rattle.src_procs.specs.Views.{body_of, held_of, live_block, pending_all, placed_of, scope_of, no_procedure, trees_seen, unbound}
 use Rattle.src_procs.proofs.NumbersAdded.{found_so}
 use Rattle.src_procs.proofs.OneStep.{none_expanded}
 use Rattle.src_procs.proofs.NeededBindings.{called_so}

@@ -1,6 +1,5 @@
 use Rattle.std.proofs.Common.{◌≡◌, drop}
-use Rattle.src_tree.specs.Contexts.{context_of}
-use Rattle.src_tree.specs.Labels.{label_at}
+use Rattle.src_tree.specs.Prelude.{context_of, label_at}
 use Rattle.src_tree.proofs.labels.label_at.Given as goal
 
 abbrev pub invariant-loop-decl : goal.invariant-loop-decl

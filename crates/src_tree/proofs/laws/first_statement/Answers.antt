@@ -1,6 +1,5 @@
 use Rattle.gr_word.specs.declared.variables.Label.TheVariants.{Public}
-use Rattle.src_tree.specs.Contexts.{context_of}
-use Rattle.src_tree.specs.Statements.{in_order}
+use Rattle.src_tree.specs.Prelude.{context_of, in_order}
 use Rattle.src_tree.proofs.FirstAmong.{found_among, only_among}
 use Rattle.src_tree.proofs.laws.first_statement.Goals as goal
 

@@ -1,6 +1,5 @@
 use Rattle.std.proofs.Common.{◌≡◌, ◌++◌, drop}
-use Rattle.src_tree.specs.Printed.{block_text}
-use Rattle.src_tree.specs.Trees.{block_of_all}
+use Rattle.src_tree.specs.Prelude.{block_text, block_of_all}
 use Rattle.src_tree.proofs.printing.+put_statements.Given as goal
 
 abbrev pub invariant-put_block-loop-statement : goal.invariant-put_block-loop-statement

@@ -1,5 +1,5 @@
 use Rattle.std.proofs.Common.{◌≡◌, ◌++◌, drop}
-use Rattle.src_tree.specs.Printed.{decls_text}
+use Rattle.src_tree.specs.Prelude.{decls_text}
 use Rattle.src_tree.proofs.printing.put_declarations.Given as goal
 
 abbrev pub invariant-loop-decl : goal.invariant-loop-decl

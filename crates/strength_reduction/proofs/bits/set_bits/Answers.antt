@@ -1,7 +1,7 @@
 use Rattle.std.proofs.Common.{◌≡◌, ◌++◌, cond, eqb, [], ◌∷◌, sym, ap, ◌∙◌, w64, of_z}
 use Rattle.std.specs.Int.{bit_at}
 use Rattle.std.proofs.lemmas.Int.{to_z-of_z}
-use Rattle.gr_word.specs.Words.{unsigned_of}
+use Rattle.gr_word.specs.Prelude.{unsigned_of}
 use Rattle.strength_reduction.proofs.SetBits.{bits_below-more, set_bits-found}
 use Rattle.strength_reduction.proofs.bits.set_bits.Goals as goal
 

@@ -1,7 +1,6 @@
 use Rattle.std.proofs.Common.{◌≡◌, List, Option, option_map, vec_items, IfOk, sym, ap, ◌∙◌, subst, w64}
 use Rattle.std.proofs.lemmas.Int.{to_z-of_z}
-use Rattle.strength_reduction.specs.Reduced.{set_bits, steps_by_bits}
-use Rattle.strength_reduction.specs.Steps.{Step, code_of}
+use Rattle.strength_reduction.specs.Prelude.{set_bits, steps_by_bits, Step, code_of}
 use Rattle.strength_reduction.proofs.Replacing.{steps-of_word}
 use Rattle.strength_reduction.proofs.code.code_by_number.Goals as goal
 

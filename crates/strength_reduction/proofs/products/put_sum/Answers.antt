@@ -1,6 +1,5 @@
 use Rattle.std.proofs.Common.{◌++◌, arith}
-use Rattle.strength_reduction.specs.Reduced.{sum_steps}
-use Rattle.strength_reduction.specs.Steps.{code_of}
+use Rattle.strength_reduction.specs.Prelude.{sum_steps, code_of}
 use Rattle.strength_reduction.proofs.Codes.{sum_more, sum_all}
 use Rattle.strength_reduction.proofs.products.put_sum.Goals as goal
 

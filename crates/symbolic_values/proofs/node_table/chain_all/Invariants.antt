@@ -1,5 +1,5 @@
 use Rattle.std.proofs.Common.{length}
-use Rattle.symbolic_values.specs.Chains.{AreChained, bucket_of}
+use Rattle.symbolic_values.specs.Prelude.{AreChained, bucket_of}
 use Rattle.symbolic_values.proofs.node_table.chain_all.Given as goal
 
 abbrev pub invariant-loop-place : goal.invariant-loop-place

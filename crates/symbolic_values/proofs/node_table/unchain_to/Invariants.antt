@@ -1,5 +1,5 @@
 use Rattle.std.proofs.Common.{◌≤◌, length}
-use Rattle.symbolic_values.specs.Chains.{AreChained, bucket_of}
+use Rattle.symbolic_values.specs.Prelude.{AreChained, bucket_of}
 use Rattle.symbolic_values.proofs.node_table.unchain_to.Given as goal
 
 abbrev pub invariant-loop-end : goal.invariant-loop-end

@@ -1,6 +1,5 @@
 use Rattle.std.proofs.Common.{◌≡◌, suc, ◌++◌, drop}
-use Rattle.word_selection.specs.Selection.{choices_steps}
-use Rattle.word_selection.specs.SlotSteps.{code_of}
+use Rattle.word_selection.specs.Prelude.{choices_steps, code_of}
 use Rattle.word_selection.proofs.reads.put_choices.Given as goal
 
 abbrev pub invariant-loop-i : goal.invariant-loop-i

@@ -1,6 +1,5 @@
 use Rattle.std.proofs.Common.{◌++◌, false}
-use Rattle.word_selection.specs.Selection.{exchanges_steps}
-use Rattle.word_selection.specs.SlotSteps.{code_of}
+use Rattle.word_selection.specs.Prelude.{exchanges_steps, code_of}
 use Rattle.word_selection.proofs.AppendedCode.{exchanges_more, exchanges_all}
 use Rattle.word_selection.proofs.writes.put_exchanges.Goals as goal
 

@@ -1,6 +1,5 @@
 use Rattle.std.proofs.Common.{◌≡◌, suc, ◌++◌, false, drop}
-use Rattle.word_selection.specs.Selection.{exchanges_steps}
-use Rattle.word_selection.specs.SlotSteps.{code_of}
+use Rattle.word_selection.specs.Prelude.{exchanges_steps, code_of}
 use Rattle.word_selection.proofs.writes.put_exchanges.Given as goal
 
 abbrev pub invariant-loop-i : goal.invariant-loop-i

@@ -1,7 +1,7 @@
 use Rattle.std.proofs.Common.{rules, ◌≡◌, ◌+◌, pos, get_or, ap, ◌∙◌, w64, to_z, of_z}
 use Rattle.std.proofs.lemmas.Int.{wraps}
-use Rattle.lt_isa.specs.Machine.{word_in}
-use Rattle.banks.specs.Banks.{block_numbered}
+use Rattle.lt_isa.specs.Prelude.{word_in}
+use Rattle.banks.specs.Prelude.{block_numbered}
 use Rattle.banks.proofs.Blocks.{exists_in, word_of_bank}
 use Rattle.banks.proofs.plain_bank.PlainBankBank.word.Goals as goal
 

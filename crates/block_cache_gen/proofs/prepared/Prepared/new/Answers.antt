@@ -1,7 +1,7 @@
 use Rattle.std.proofs.Common.{◌∙◌, sym, ap, length}
-use Rattle.gr_base.specs.NameMaps.{found_under}
-use Rattle.scalar_ranges.specs.Known.{nothing_known}
-use Rattle.block_cache_gen.specs.Notes.{mask_to}
+use Rattle.gr_base.specs.Prelude.{found_under}
+use Rattle.scalar_ranges.specs.Prelude.{nothing_known}
+use Rattle.block_cache_gen.specs.Prelude.{mask_to}
 use Rattle.block_cache_gen.proofs.FrameParts.{frame_places, frame_slots, frame_claims, frame_names}
 use Rattle.block_cache_gen.proofs.prepared.Prepared.new.Goals as goal
 

@@ -1,6 +1,6 @@
 use Rattle.std.proofs.Common.{◌≡◌, ap, ◌∙◌, rules, w64, to_z, of_z}
 use Rattle.std.proofs.lemmas.Int.{wraps}
-use Rattle.held_registers.specs.Held.{register_of_number}
+use Rattle.held_registers.specs.Prelude.{register_of_number}
 use Rattle.block_cache_gen.proofs.prepared.Prepared.number_held.Goals as goal
 
 pub returns : goal.returns

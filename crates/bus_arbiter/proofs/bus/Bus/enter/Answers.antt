@@ -1,6 +1,5 @@
 use Rattle.std.proofs.Common.{◌≡◌, ◌<◌, length, None, refl, sym, subst}
-use Rattle.bus_arbiter.specs.Cores.{AllStand, AreLive, Core, NoneHalted, Shared, Stands}
-use Rattle.bus_arbiter.specs.Shares.{share_at, share_of}
+use Rattle.bus_arbiter.specs.Prelude.{AllStand, AreLive, Core, NoneHalted, Shared, Stands, share_at, share_of}
 use Rattle.bus_arbiter.proofs.BusSteps.{begins-more, live-more, stand-more}
 use Rattle.bus_arbiter.proofs.bus.Bus.enter.Goals as goal
 

@@ -1,6 +1,6 @@
 use Rattle.std.proofs.Common.{◌+◌, ap, ◌∙◌, subst, arith, length}
 use Rattle.gr_base.proofs.Counts.{rose_behind}
-use Rattle.bus_arbiter.specs.Cores.{AllStand}
+use Rattle.bus_arbiter.specs.Prelude.{AllStand}
 use Rattle.bus_arbiter.proofs.Plays.{length-put}
 use Rattle.bus_arbiter.proofs.Rounding.{fails-then, goes-then, round-between, round-ends, round-fails, round-slot, round-within}
 use Rattle.bus_arbiter.proofs.Stopping.{stops-then, turn-stops}

@@ -1,9 +1,7 @@
 use Rattle.std.proofs.Common.{◌≡◌, ◌+◌, ◌<◌, [], List, refl, sym, ap, ◌∙◌, subst, arith, length}
 use Rattle.gr_base.proofs.Counts.{rose_behind}
 use Rattle.bus_arbiter.specs.declared.shares.Share.{Share}
-use Rattle.bus_arbiter.specs.Cores.{AllStand, Shared}
-use Rattle.bus_arbiter.specs.Rounds.{JoinedOn}
-use Rattle.bus_arbiter.specs.Shares.{share_at}
+use Rattle.bus_arbiter.specs.Prelude.{AllStand, Shared, JoinedOn, share_at}
 use Rattle.bus_arbiter.proofs.Alone.{alone-fails, alone-on}
 use Rattle.bus_arbiter.proofs.BusSteps.{all-stood}
 use Rattle.bus_arbiter.proofs.Pausing.{joined-stays}

@@ -1,6 +1,6 @@
 use Rattle.std.proofs.Common.{◌≡◌, ◌≢◌, ◌<◌, ℕ, Some, None}
 use Rattle.std.specs.Prelude.{slice_get}
-use Rattle.bus_arbiter.specs.Cores.{Core}
+use Rattle.bus_arbiter.specs.Prelude.{Core}
 use Rattle.bus_arbiter.proofs.bus.Bus.is_alone.Given as goal
 
 abbrev pub invariant-loop-other : goal.invariant-loop-other

@@ -1,4 +1,4 @@
-use Rattle.bus_arbiter.specs.Rounds.{IsBest}
+use Rattle.bus_arbiter.specs.Prelude.{IsBest}
 use Rattle.bus_arbiter.proofs.bus.Bus.next.Given as goal
 
 abbrev pub invariant-loop-core : goal.invariant-loop-core

@@ -1,6 +1,5 @@
 use Rattle.std.proofs.Common.{◌≡◌, ◌≤◌, length, true, false}
-use Rattle.bus_arbiter.specs.Cores.{AllStand}
-use Rattle.bus_arbiter.specs.Rounds.{NoneBefore, StayJoined}
+use Rattle.bus_arbiter.specs.Prelude.{AllStand, NoneBefore, StayJoined}
 use Rattle.bus_arbiter.proofs.bus.Bus.pause_all.Given as goal
 
 abbrev pub invariant-pausing : goal.invariant-pausing

@@ -1,6 +1,6 @@
 use Rattle.std.proofs.Common.{List, refl, sym, ap, ◌∙◌, subst, arith}
 use Rattle.gr_base.proofs.Counts.{rose_behind}
-use Rattle.bus_arbiter.specs.Transfers.{Transfer}
+use Rattle.bus_arbiter.specs.Prelude.{Transfer}
 use Rattle.bus_arbiter.proofs.BusSteps.{all-stood}
 use Rattle.bus_arbiter.proofs.Plays.{PlayedSoFar, plays-fail_at, plays-first, plays-next_at, plays-stop_at}
 use Rattle.bus_arbiter.proofs.bus.Bus.play.Goals as goal

@@ -1,7 +1,6 @@
 use Rattle.std.proofs.Common.{[], ap, ◌∙◌, subst}
 use Rattle.std.proofs.lemmas.Result.{on_ok_weaker}
-use Rattle.bus_arbiter.specs.Cores.{NoneHalted}
-use Rattle.bus_arbiter.specs.Rounds.{JoinedOn}
+use Rattle.bus_arbiter.specs.Prelude.{NoneHalted, JoinedOn}
 use Rattle.bus_arbiter.proofs.Rounding.{all-joined, all-left}
 use Rattle.bus_arbiter.proofs.bus.Bus.run.Goals as goal
 

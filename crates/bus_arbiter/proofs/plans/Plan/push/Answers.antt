@@ -1,8 +1,8 @@
 use Rattle.std.proofs.Common.{◌<◌, length, sym, subst}
-use Rattle.bus_arbiter.specs.Shares.{IsPlan, PlanTakes}
+use Rattle.bus_arbiter.specs.Prelude.{IsPlan, PlanTakes}
 use Rattle.bus_arbiter.proofs.PlanShares.{plan-more}
-use Rattle.bus_arbiter.proofs.plans.Plan.push.Goals as goal
 use Rattle.bus_arbiter.proofs.plans.Plan.push.Goals.{in-Ok, in-Err}
+use Rattle.bus_arbiter.proofs.plans.Plan.push.Goals as goal
 
 pub invariant_of-self : goal.invariant_of-self
 invariant_of-self c = elim c.match-push.branch [

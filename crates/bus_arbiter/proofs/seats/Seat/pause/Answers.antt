@@ -1,5 +1,5 @@
 use Rattle.std.proofs.Common.{◌≡◌, [], Contains, min, sym, subst}
-use Rattle.bus_arbiter.specs.Cores.{Core, LeftAt, shows_to}
+use Rattle.bus_arbiter.specs.Prelude.{Core, LeftAt, shows_to}
 use Rattle.bus_arbiter.proofs.Pausing.{halted-late, halted-left, halted-quiet, paused-late, paused-left, paused-quiet}
 use Rattle.bus_arbiter.proofs.seats.Seat.pause.Goals as goal
 

@@ -1,8 +1,8 @@
 use Rattle.std.proofs.Common.{Some, subst}
-use Rattle.lt_isa.specs.Trace.{trace_from}
+use Rattle.lt_isa.specs.Prelude.{trace_from}
 use Rattle.processor.specs.declared.ends.End.{End}
-use Rattle.processor.specs.Ends.{EndsAs}
-use Rattle.bus_arbiter.specs.Cores.{Core, LeftAt, OnItsWay}
+use Rattle.processor.specs.Prelude.{EndsAs}
+use Rattle.bus_arbiter.specs.Prelude.{Core, LeftAt, OnItsWay}
 use Rattle.bus_arbiter.proofs.BusSteps.{left-halted, left-stopped}
 use Rattle.bus_arbiter.proofs.seats.Seat.run.Goals as goal
 

@@ -1,4 +1,4 @@
-use Rattle.lt_isa.specs.Events.{observed_of}
+use Rattle.lt_isa.specs.Prelude.{observed_of}
 use Rattle.call_steps.proofs.EventCounts.{event-counted}
 use Rattle.call_steps.proofs.count_watch.CountWatchWatch.seen.Goals as goal
 

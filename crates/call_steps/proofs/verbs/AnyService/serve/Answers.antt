@@ -1,5 +1,5 @@
 use Rattle.std.proofs.Common.{refl}
-use Rattle.call_steps.specs.Progress.{WorkStops}
+use Rattle.call_steps.specs.Prelude.{WorkStops}
 use Rattle.call_steps.proofs.Answering.{passed-on, written-said}
 use Rattle.call_steps.proofs.CallsMade.{write-tried}
 use Rattle.call_steps.proofs.verbs.AnyService.serve.Goals as goal

@@ -1,5 +1,5 @@
 use Rattle.std.proofs.Common.{◌≡◌, take, map, All}
-use Rattle.explain_words.specs.Plain.{IsPlain, shown_byte}
+use Rattle.explain_words.specs.Prelude.{IsPlain, shown_byte}
 use Rattle.explain_words.proofs.words.Words.finish.Given as goal
 
 abbrev pub invariant-loop-byte : goal.invariant-loop-byte

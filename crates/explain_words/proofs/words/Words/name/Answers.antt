@@ -1,8 +1,8 @@
 use Rattle.std.proofs.Common.{ℕ, List, flat_map, sym, ◌∙◌, subst, map-id}
 use Rattle.std.proofs.lemmas.Iterator.{YieldsList-from_chars}
 use Rattle.std.proofs.lemmas.Iterator.Consumers.{YieldsList-end}
-use Rattle.gr_base.specs.Added.{Adds}
-use Rattle.explain_words.specs.EscapedNames.{escaped_char}
+use Rattle.gr_base.specs.Prelude.{Adds}
+use Rattle.explain_words.specs.Prelude.{escaped_char}
 use Rattle.explain_words.proofs.words.Words.name.Goals as goal
 
 pub returns : goal.returns

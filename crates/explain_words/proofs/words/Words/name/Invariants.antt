@@ -1,6 +1,6 @@
 use Rattle.std.proofs.Common.{flat_map}
-use Rattle.gr_base.specs.Added.{Adds}
-use Rattle.explain_words.specs.EscapedNames.{escaped_char}
+use Rattle.gr_base.specs.Prelude.{Adds}
+use Rattle.explain_words.specs.Prelude.{escaped_char}
 use Rattle.explain_words.proofs.words.Words.name.Given as goal
 
 abbrev pub invariant-loop-c : goal.invariant-loop-c

@@ -1,4 +1,4 @@
-use Rattle.src_tree.specs.Trees.{source_of}
+use Rattle.src_tree.specs.Prelude.{source_of}
 use Rattle.flow_types.proofs.Distinct.{made-are-variables}
 use Rattle.flow_types.proofs.typing.Typed.wants.Goals as goal
 

@@ -1,7 +1,7 @@
 use Rattle.std.proofs.Common.{refl}
-use Rattle.object_file.specs.Spelling.{spelling}
+use Rattle.object_file.specs.Prelude.{spelling}
 use Rattle.call_replies.specs.declared.replies.Done.TheVariants.{Assembled}
-use Rattle.call_steps.specs.Work.{Writes}
+use Rattle.call_steps.specs.Prelude.{Writes}
 use Rattle.call_steps.proofs.Reaching.{passed, passed-memory, to-write}
 use Rattle.ghost_cli.proofs.assemble.AssembleMaker.make.Goals as goal
 

@@ -1,6 +1,6 @@
 use Rattle.std.proofs.Common.{◌≡◌, ◌∙◌, List, ℕ, Option, Some, None, Bor, ap, refl}
 use Rattle.std.specs.Option.{option_map}
-use Rattle.call_laws.specs.Check.{check_work}
+use Rattle.call_laws.specs.Prelude.{check_work}
 use Rattle.ghost_cli.proofs.check.CheckRequest.words.Goals as goal
 
 now-first : (value : Option (Bor (List ℕ)))

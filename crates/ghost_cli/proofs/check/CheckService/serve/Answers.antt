@@ -1,8 +1,6 @@
 use Rattle.std.proofs.Common.{refl}
 use Rattle.call_replies.specs.declared.replies.Verdict.TheVariants.{Accepted}
-use Rattle.call_steps.specs.Progress.{WorkStops}
-use Rattle.call_steps.specs.Showing.{nothing_seen}
-use Rattle.call_steps.specs.Work.{Ends}
+use Rattle.call_steps.specs.Prelude.{WorkStops, nothing_seen, Ends}
 use Rattle.call_steps.proofs.Answering.{left-said, passed-on}
 use Rattle.call_steps.proofs.Reaching.{with-verdict}
 use Rattle.ghost_cli.proofs.check.CheckService.serve.Goals as goal

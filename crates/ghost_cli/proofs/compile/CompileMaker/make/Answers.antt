@@ -1,7 +1,6 @@
 use Rattle.std.proofs.Common.{Ok}
-use Rattle.src_tree.specs.Trees.{source_of}
-use Rattle.call_steps.specs.Compile.{compiles_to, on_compiled}
-use Rattle.call_steps.specs.Questions.{WhichCompiled}
+use Rattle.src_tree.specs.Prelude.{source_of}
+use Rattle.call_steps.specs.Prelude.{compiles_to, on_compiled, WhichCompiled}
 use Rattle.call_steps.proofs.Reaching.{passed, with-answer, with-refusal}
 use Rattle.ghost_cli.proofs.compile.CompileMaker.make.Goals as goal
 

@@ -1,6 +1,6 @@
 use Rattle.std.proofs.Common.{◌∙◌}
-use Rattle.command_words.specs.Asks.{compile_named}
-use Rattle.call_steps.specs.Compile.{compile_on}
+use Rattle.command_words.specs.Prelude.{compile_named}
+use Rattle.call_steps.specs.Prelude.{compile_on}
 use Rattle.ghost_cli.proofs.compile.CompileRequest.words.Goals as goal
 
 pub returns-clause-asked : goal.returns-clause-asked

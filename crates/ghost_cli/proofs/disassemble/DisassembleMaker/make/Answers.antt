@@ -1,7 +1,7 @@
 use Rattle.std.proofs.Common.{refl}
-use Rattle.lt_assembler.specs.Canonical.{canonical}
+use Rattle.lt_assembler.specs.Prelude.{canonical}
 use Rattle.call_replies.specs.declared.replies.Done.TheVariants.{Disassembled}
-use Rattle.call_steps.specs.Work.{Writes}
+use Rattle.call_steps.specs.Prelude.{Writes}
 use Rattle.call_steps.proofs.Reaching.{passed, passed-memory, to-write}
 use Rattle.ghost_cli.proofs.disassemble.DisassembleMaker.make.Goals as goal
 

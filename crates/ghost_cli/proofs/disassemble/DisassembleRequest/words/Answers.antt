@@ -1,6 +1,6 @@
 use Rattle.std.proofs.Common.{◌∙◌}
-use Rattle.command_words.specs.Options.{two_named}
-use Rattle.call_laws.specs.Disassemble.{disassemble_work}
+use Rattle.command_words.specs.Prelude.{two_named}
+use Rattle.call_laws.specs.Prelude.{disassemble_work}
 use Rattle.ghost_cli.proofs.disassemble.DisassembleRequest.words.Goals as goal
 
 pub returns-clause-asked : goal.returns-clause-asked

@@ -1,12 +1,11 @@
 use Rattle.std.proofs.Common.{refl, ◌∙◌, subst, None, Some}
-use Rattle.src_tree.specs.Trees.{source_of}
-use Rattle.flow_types.specs.Wants.{declared_wants}
+use Rattle.src_tree.specs.Prelude.{source_of}
+use Rattle.flow_types.specs.Prelude.{declared_wants}
 use Rattle.call_replies.specs.declared.replies.Verdict.TheVariants.{Spent}
 use Rattle.ghost_cli.specs.declared.evaluate.Left.TheVariants.{Done}
-use Rattle.call_laws.specs.Evaluate.{evaluates_on, on_left}
-use Rattle.ghost_cli.specs.Evaluated.{LeavesText}
-use Rattle.call_steps.specs.Questions.{WhatIsLeft}
-use Rattle.call_steps.specs.Steps.{with_variables}
+use Rattle.call_laws.specs.Prelude.{evaluates_on, on_left}
+use Rattle.ghost_cli.specs.Prelude.{LeavesText}
+use Rattle.call_steps.specs.Prelude.{WhatIsLeft, with_variables}
 use Rattle.ghost_cli.proofs.Evaluating.{inputs-reached, inputs-stopped}
 use Rattle.call_steps.proofs.Reaching.{passed, passed-memory, to-write, with-answer, with-verdict}
 use Rattle.ghost_cli.proofs.evaluate.EvaluateMaker.make.Goals as goal

@@ -1,6 +1,6 @@
 use Rattle.std.proofs.Common.{◌∙◌}
-use Rattle.command_words.specs.Asks.{evaluate_named}
-use Rattle.call_laws.specs.Evaluate.{evaluate_work}
+use Rattle.command_words.specs.Prelude.{evaluate_named}
+use Rattle.call_laws.specs.Prelude.{evaluate_work}
 use Rattle.ghost_cli.proofs.evaluate.EvaluateRequest.words.Goals as goal
 
 pub returns-clause-asked : goal.returns-clause-asked

@@ -1,7 +1,7 @@
 use Rattle.std.proofs.Common.{ap, Ok}
 use Rattle.call_replies.specs.declared.replies.Done.TheVariants.{Inferred}
-use Rattle.call_laws.specs.Infer.{infers_to, on_inferred}
-use Rattle.call_steps.specs.Questions.{WhatIsInferred}
+use Rattle.call_laws.specs.Prelude.{infers_to, on_inferred}
+use Rattle.call_steps.specs.Prelude.{WhatIsInferred}
 use Rattle.call_steps.proofs.Reaching.{passed, passed-memory, to-write, with-answer, with-refusal}
 use Rattle.ghost_cli.proofs.infer.InferMaker.make.Goals as goal
 

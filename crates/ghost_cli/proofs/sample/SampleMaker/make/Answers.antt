@@ -1,11 +1,10 @@
 use Rattle.std.proofs.Common.{ap, subst, None, Some}
-use Rattle.lt_isa.specs.Start.{wants_of}
+use Rattle.lt_isa.specs.Prelude.{wants_of}
 use Rattle.call_replies.specs.declared.replies.Done.TheVariants.{Sampled}
 use Rattle.call_replies.specs.declared.replies.Verdict.TheVariants.{Spent}
-use Rattle.call_steps.specs.Histogram.{sample_cycles, sample_inputs}
-use Rattle.call_steps.specs.Questions.{WhatIsMade, WhenItHalts}
-use Rattle.call_laws.specs.Sample.{on_sampled, samples_on}
-use Rattle.ghost_cli.specs.Sampled.{SampleCameTo}
+use Rattle.call_steps.specs.Prelude.{sample_cycles, sample_inputs, WhatIsMade, WhenItHalts}
+use Rattle.call_laws.specs.Prelude.{on_sampled, samples_on}
+use Rattle.ghost_cli.specs.Prelude.{SampleCameTo}
 use Rattle.call_steps.proofs.Reaching.{not-begun, out-of-memory, passed, to-write, with-answer, with-verdict}
 use Rattle.ghost_cli.proofs.sample.SampleMaker.make.Goals as goal
 

@@ -1,6 +1,6 @@
 use Rattle.std.proofs.Common.{◌∙◌}
-use Rattle.command_words.specs.Asks.{sample_named}
-use Rattle.call_laws.specs.Sample.{sample_work}
+use Rattle.command_words.specs.Prelude.{sample_named}
+use Rattle.call_laws.specs.Prelude.{sample_work}
 use Rattle.ghost_cli.proofs.sample.SampleRequest.words.Goals as goal
 
 pub returns-clause-asked : goal.returns-clause-asked

@@ -1,6 +1,6 @@
 use Rattle.std.proofs.Common.{refl, ◌≡◌, Some, None, sym}
 use Rattle.std.specs.List.{position}
-use Rattle.gr_outside.specs.Files.{is_named}
+use Rattle.gr_outside.specs.Prelude.{is_named}
 use Rattle.gr_outside.proofs.FileLists.{get_found, get_missing}
 use Rattle.gr_outside.proofs.files.FileTable.bytes.Goals as goal
 

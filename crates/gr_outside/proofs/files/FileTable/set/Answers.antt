@@ -1,6 +1,6 @@
 use Rattle.std.proofs.Common.{◌≡◌, Some, None, true, sym, ap, subst, ◌∙◌}
 use Rattle.std.specs.List.{position}
-use Rattle.gr_outside.specs.Files.{is_named, files_of}
+use Rattle.gr_outside.specs.Prelude.{is_named, files_of}
 use Rattle.gr_outside.specs.declared.files.File.{File}
 use Rattle.gr_outside.proofs.FileLists.{files_of-replaced, files_of-added, found_named}
 use Rattle.gr_outside.proofs.files.FileTable.set.Goals as goal

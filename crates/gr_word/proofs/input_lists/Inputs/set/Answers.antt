@@ -1,6 +1,6 @@
 use Rattle.std.proofs.Common.{rules, ap, subst, ◌∙◌, sym, ◌≡◌, ◌<◌, length, slice_set, slice_index_or, [], to_z, of_z, w64}
 use Rattle.std.proofs.lemmas.List.{map-set, get_or-map, length-map}
-use Rattle.gr_word.specs.Fitting.{words_at}
+use Rattle.gr_word.specs.Prelude.{words_at}
 use Rattle.gr_word.proofs.input_lists.Inputs.set.Goals as goal
 
 there : (c : goal.After-self-1) → c.args.i < length c.self.inside.lists.items

@@ -1,9 +1,9 @@
 use Rattle.std.proofs.Common.{◌≡◌, ◌≤◌, length, Option, Some, None, Result, Ok, Err, IfOk, IfSome, subst}
 use Rattle.std.specs.Option.{option_map}
-use Rattle.command_words.specs.Asks.{bus_named}
+use Rattle.command_words.specs.Prelude.{bus_named}
 use Rattle.machine_verbs.specs.declared.bus.BusWords.{BusWords}
-use Rattle.machine_verbs.specs.Bus.{bus_work}
-use Rattle.call_steps.specs.Work.{Work}
+use Rattle.machine_verbs.specs.Prelude.{bus_work}
+use Rattle.call_steps.specs.Prelude.{Work}
 use Rattle.machine_verbs.proofs.bus.SharedBusRequest.words.Goals as goal
 
 both : {T E : Type 0} (P Q : T → Type 0) (result : Result (Option T) E) → IfOk result (λ found. IfSome found P)

@@ -1,7 +1,6 @@
 use Rattle.std.proofs.Common.{refl}
 use Rattle.call_replies.specs.declared.replies.Reply.TheVariants.{NoMemory}
-use Rattle.call_steps.specs.CallsFollow.{StopsHere}
-use Rattle.call_steps.specs.Progress.{NoRoomYet, WorkStops}
+use Rattle.call_steps.specs.Prelude.{StopsHere, NoRoomYet, WorkStops}
 use Rattle.call_steps.proofs.Answering.{passed-on}
 use Rattle.machine_verbs.proofs.Pairing.{bus-reached, bus-stopped}
 use Rattle.call_steps.proofs.Progressing.{same-only}

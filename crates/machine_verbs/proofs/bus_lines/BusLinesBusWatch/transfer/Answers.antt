@@ -1,8 +1,8 @@
 use Rattle.std.proofs.Common.{rules, ◌≡◌, ◌∷◌, [], true, sym, subst}
-use Rattle.lt_isa.specs.Events.{observed_of}
-use Rattle.processor.specs.Watching.{TellsMore}
-use Rattle.bus_arbiter.specs.Transfers.{moved_by}
-use Rattle.machine_verbs.specs.Watched.{HoldsTransfers}
+use Rattle.lt_isa.specs.Prelude.{observed_of}
+use Rattle.processor.specs.Prelude.{TellsMore}
+use Rattle.bus_arbiter.specs.Prelude.{moved_by}
+use Rattle.machine_verbs.specs.Prelude.{HoldsTransfers}
 use Rattle.machine_verbs.proofs.BusWatches.{transfer_told}
 use Rattle.machine_verbs.proofs.bus_lines.BusLinesBusWatch.transfer.Goals as goal
 

@@ -1,9 +1,8 @@
 use Rattle.std.proofs.Common.{refl, subst, None, Some}
 use Rattle.call_replies.specs.declared.replies.Verdict.TheVariants.{Spent}
 use Rattle.machine_verbs.specs.declared.run.Ran.TheVariants.{Halted}
-use Rattle.call_steps.specs.Questions.{WhenItHalts}
-use Rattle.machine_verbs.specs.Ran.{RanTo}
-use Rattle.machine_verbs.specs.Run.{on_halt, runs_on}
+use Rattle.call_steps.specs.Prelude.{WhenItHalts}
+use Rattle.machine_verbs.specs.Prelude.{RanTo, on_halt, runs_on}
 use Rattle.call_steps.proofs.Reaching.{passed, passed-memory, to-write, with-answer, with-verdict}
 use Rattle.machine_verbs.proofs.run.RunMaker.make.Goals as goal
 

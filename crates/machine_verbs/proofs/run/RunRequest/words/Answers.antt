@@ -1,6 +1,6 @@
 use Rattle.std.proofs.Common.{◌∙◌}
-use Rattle.command_words.specs.Asks.{run_named}
-use Rattle.machine_verbs.specs.Run.{run_work}
+use Rattle.command_words.specs.Prelude.{run_named}
+use Rattle.machine_verbs.specs.Prelude.{run_work}
 use Rattle.machine_verbs.proofs.run.RunRequest.words.Goals as goal
 
 pub returns-clause-asked : goal.returns-clause-asked

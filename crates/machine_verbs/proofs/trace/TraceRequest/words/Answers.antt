@@ -1,6 +1,6 @@
 use Rattle.std.proofs.Common.{◌∙◌}
-use Rattle.command_words.specs.Asks.{trace_named}
-use Rattle.machine_verbs.specs.Trace.{trace_work}
+use Rattle.command_words.specs.Prelude.{trace_named}
+use Rattle.machine_verbs.specs.Prelude.{trace_work}
 use Rattle.machine_verbs.proofs.trace.TraceRequest.words.Goals as goal
 
 pub returns-clause-asked : goal.returns-clause-asked

@@ -1,8 +1,7 @@
 use Rattle.std.proofs.Common.{refl}
-use Rattle.call_steps.specs.CallsFollow.{StopsHere}
+use Rattle.call_steps.specs.Prelude.{StopsHere, NoRoomYet, WorkStops}
 use Rattle.call_replies.specs.declared.replies.Reply.TheVariants.{NoMemory}
-use Rattle.call_steps.specs.Progress.{NoRoomYet, WorkStops}
-use Rattle.machine_verbs.specs.Trace.{traces_on}
+use Rattle.machine_verbs.specs.Prelude.{traces_on}
 use Rattle.call_steps.proofs.Answering.{passed-on}
 use Rattle.call_steps.proofs.Progressing.{same-only}
 use Rattle.machine_verbs.proofs.trace.TraceService.serve.Goals as goal

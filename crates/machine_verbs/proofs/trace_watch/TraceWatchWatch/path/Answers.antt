@@ -1,8 +1,8 @@
 use Rattle.std.proofs.Common.{rules, ◌≡◌, ◌∷◌, [], true, false, sym, subst}
-use Rattle.processor.specs.Watching.{APath, TellsMore}
-use Rattle.gr_base.specs.Added.{Adds}
-use Rattle.run_data.specs.PathText.{path_line}
-use Rattle.machine_verbs.specs.Watched.{HoldsTold}
+use Rattle.processor.specs.Prelude.{APath, TellsMore}
+use Rattle.gr_base.specs.Prelude.{Adds}
+use Rattle.run_data.specs.Prelude.{path_line}
+use Rattle.machine_verbs.specs.Prelude.{HoldsTold}
 use Rattle.machine_verbs.proofs.Watches.{path_told, path_untold}
 use Rattle.machine_verbs.proofs.trace_watch.TraceWatchWatch.path.Goals as goal
 

@@ -1,8 +1,7 @@
 use Rattle.std.proofs.Common.{rules, ◌≡◌, ◌∷◌, [], true, sym, subst}
-use Rattle.lt_isa.specs.Events.{observed_of}
-use Rattle.lt_isa.specs.Trace.{seen_at}
-use Rattle.processor.specs.Watching.{AnEvent, TellsMore}
-use Rattle.machine_verbs.specs.Watched.{HoldsTold}
+use Rattle.lt_isa.specs.Prelude.{observed_of, seen_at}
+use Rattle.processor.specs.Prelude.{AnEvent, TellsMore}
+use Rattle.machine_verbs.specs.Prelude.{HoldsTold}
 use Rattle.machine_verbs.proofs.Watches.{seen_told}
 use Rattle.machine_verbs.proofs.trace_watch.TraceWatchWatch.seen.Goals as goal
 

@@ -1,8 +1,8 @@
 -- The greatest of a heap whose order is turned round is its lowest place.
 use Rattle.std.proofs.lemmas.List.Sorted.{IsPermutation-map}
 use Rattle.note_infer.proofs.JoinersListed.{lowest_by}
-use Rattle.note_infer.proofs.joiners.Joiners.pop.Goals as goal
 use Rattle.note_infer.proofs.joiners.Joiners.pop.Goals.{in-None, in-Some}
+use Rattle.note_infer.proofs.joiners.Joiners.pop.Goals as goal
 
 pub returns-clause-taken : goal.returns-clause-taken
 returns-clause-taken c =

@@ -1,8 +1,8 @@
 -- The places of a heap with one more.
 use Rattle.std.proofs.Common.{ap, map}
 use Rattle.std.proofs.lemmas.List.Sorted.{IsPermutation-map}
-use Rattle.note_infer.proofs.joiners.Joiners.push.Goals as goal
 use Rattle.note_infer.proofs.joiners.Joiners.push.Goals.{in-Err, in-Ok}
+use Rattle.note_infer.proofs.joiners.Joiners.push.Goals as goal
 
 pub returns-clause-added : goal.returns-clause-added
 returns-clause-added c =

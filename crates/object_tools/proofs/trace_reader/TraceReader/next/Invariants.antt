@@ -1,5 +1,5 @@
 use Rattle.std.proofs.Common.{◌≡◌, ◌-◌}
-use Rattle.object_tools.specs.TraceReading.{MayRead, left_to_read}
+use Rattle.object_tools.specs.Prelude.{MayRead, left_to_read}
 use Rattle.object_tools.proofs.trace_reader.TraceReader.next.Given as goal
 
 -- what is left to read stays, though some of it waits now

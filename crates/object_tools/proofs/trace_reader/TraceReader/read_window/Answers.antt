@@ -2,19 +2,12 @@ use Rattle.std.proofs.Common.{◌≡◌, ◌==◌, ◌&&◌, ◌++◌, Bool, Ok,
 use Rattle.std.proofs.lemmas.Bool.{ltb-true}
 use Rattle.std.proofs.lemmas.Bool.Decides.{Decides-eqb}
 use Rattle.std.proofs.lemmas.List.{nil_from_length}
-use Rattle.banks.specs.Accesses.{accesses_from}
-use Rattle.lt_isa.specs.Machine.{State}
-use Rattle.lt_isa.specs.Object.{Parts}
-use Rattle.lt_isa.specs.Ranges.{IsInRange}
-use Rattle.lt_isa.specs.Shape.{IsShaped}
-use Rattle.lt_isa.specs.Trace.{trace_from}
+use Rattle.banks.specs.Prelude.{accesses_from}
+use Rattle.lt_isa.specs.Prelude.{State, Parts, IsInRange, IsShaped, trace_from}
 use Rattle.lt_isa.proofs.Ends.{final_shaped}
-use Rattle.processor.specs.Ends.{is_spent}
-use Rattle.processor.specs.ObliviousBanks.{paths_shown}
-use Rattle.processor.specs.Watching.{events_in, with_paths}
+use Rattle.processor.specs.Prelude.{is_spent, paths_shown, events_in, with_paths}
 use Rattle.processor.proofs.TellingPaths.{events_in-with_paths}
-use Rattle.object_tools.specs.Recorded.{stamped_of}
-use Rattle.object_tools.specs.TraceReading.{ahead}
+use Rattle.object_tools.specs.Prelude.{stamped_of, ahead}
 use Rattle.object_tools.specs.declared.recorder.Recorded.{Recorded}
 use Rattle.object_tools.proofs.Reading.{all-three}
 use Rattle.object_tools.proofs.Windows.{window-read}

@@ -1,12 +1,8 @@
 use Rattle.std.proofs.Common.{◌≡◌, ℕ, ◌+◌, ◌<◌, ◌/◌, List, length, map, All, ap, ◌∙◌, subst, arith}
 use Rattle.std.specs.Result.{IfOk}
-use Rattle.banks.specs.Banks.{one_leaf}
+use Rattle.banks.specs.Prelude.{one_leaf}
 use Rattle.banks.proofs.Blocks.{length-cut}
-use Rattle.path_oram.specs.Orams.{paths_ahead}
-use Rattle.path_oram.specs.Places.{first_places}
-use Rattle.path_oram.specs.Whole.{IsHeightFor}
-use Rattle.path_oram.specs.Words.{first_words, leaf_of, words_left}
-use Rattle.path_oram.specs.WordsRead.{leaves_shown}
+use Rattle.path_oram.specs.Prelude.{paths_ahead, first_places, IsHeightFor, first_words, leaf_of, words_left, leaves_shown}
 use Rattle.path_oram.proofs.oram.PathOram.new.Goals as goal
 
 pub over-requires : goal.over-requires

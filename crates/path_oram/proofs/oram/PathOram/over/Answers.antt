@@ -1,6 +1,5 @@
 use Rattle.std.proofs.Common.{length, sym, ap, ◌∙◌, subst, arith}
-use Rattle.path_oram.specs.Whole.{IsHeightFor}
-use Rattle.path_oram.specs.Words.{words_left}
+use Rattle.path_oram.specs.Prelude.{IsHeightFor, words_left}
 use Rattle.path_oram.proofs.Started.{leaf_count, leaves_below, place_first, start_shown}
 use Rattle.path_oram.proofs.oram.PathOram.over.Goals as goal
 

@@ -1,8 +1,7 @@
 use Rattle.std.proofs.Common.{◌≡◌, ap, get_or, ◌∙◌}
-use Rattle.banks.specs.Banks.{one_leaf}
+use Rattle.banks.specs.Prelude.{one_leaf}
 use Rattle.rand_core.specs.Stream.{next_u64}
-use Rattle.path_oram.specs.Coming.{by-word, comes-one}
-use Rattle.path_oram.specs.Moves.{MovesBy}
+use Rattle.path_oram.specs.Prelude.{by-word, comes-one, MovesBy}
 use Rattle.path_oram.proofs.Ahead.{ahead-step}
 use Rattle.path_oram.proofs.oram.PathOramBank.write.Given.{Over}
 use Rattle.path_oram.proofs.oram.PathOramBank.write.Goals as goal

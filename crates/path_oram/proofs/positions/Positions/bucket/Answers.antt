@@ -1,6 +1,6 @@
 use Rattle.std.proofs.Common.{◌≡◌, ◌+◌, ◌*◌, ◌%◌, ◌^◌, ap, arith}
 use Rattle.std.proofs.lemmas.Nat.{one_shl}
-use Rattle.path_oram.specs.Places.{bucket_number}
+use Rattle.path_oram.specs.Prelude.{bucket_number}
 use Rattle.path_oram.proofs.PathNumbers.{number_bound}
 use Rattle.path_oram.proofs.Slots.{bucket_blocks, count_buckets}
 use Rattle.path_oram.proofs.positions.Positions.bucket.Goals as goal

@@ -3,7 +3,7 @@ use Rattle.std.specs.Prelude.{Contains}
 use Rattle.std.specs.List.{flat_map}
 use Rattle.std.proofs.lemmas.Bool.{false≢true}
 use Rattle.std.proofs.lemmas.List.Elements.{Contains-append_cases}
-use Rattle.path_oram.specs.Slots.{blocks_in, tree_blocks}
+use Rattle.path_oram.specs.Prelude.{blocks_in, tree_blocks}
 use Rattle.path_oram.proofs.Standing.{somewhere}
 use Rattle.path_oram.proofs.positions.Positions.leaf.Goals as goal
 

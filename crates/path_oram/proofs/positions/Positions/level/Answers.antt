@@ -1,9 +1,7 @@
 use Rattle.std.proofs.Common.{◌≡◌, ◌≤◌, ◌+◌, get_or, sym, ap, ◌∙◌, subst, arith}
 use Rattle.std.specs.Prelude.{Contains}
 use Rattle.std.proofs.lemmas.Bool.{false≢true}
-use Rattle.path_oram.specs.Places.{held, on_path}
-use Rattle.path_oram.specs.Slots.{tree_blocks}
-use Rattle.path_oram.specs.Whole.{IsWhole}
+use Rattle.path_oram.specs.Prelude.{held, on_path, tree_blocks, IsWhole}
 use Rattle.path_oram.proofs.Standing.{bucket_read, in_stash, one_level_more}
 use Rattle.path_oram.proofs.positions.Positions.level.Goals as goal
 

@@ -1,6 +1,6 @@
 use Rattle.std.proofs.Common.{ℕ, ◌<◌, get_or}
 use Rattle.std.specs.Prelude.{Contains}
-use Rattle.path_oram.specs.Places.{held, on_path}
+use Rattle.path_oram.specs.Prelude.{held, on_path}
 use Rattle.path_oram.proofs.positions.Positions.level.Given as goal
 
 abbrev pub invariant-loop-level : goal.invariant-loop-level

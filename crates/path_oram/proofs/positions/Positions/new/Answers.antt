@@ -2,8 +2,7 @@ use Rattle.std.proofs.Common.{◌≡◌, ◌≤◌, ◌∙◌, [], length, map, 
 use Rattle.std.specs.List.{range_with_len}
 use Rattle.std.proofs.lemmas.List.{length-map}
 use Rattle.std.proofs.lemmas.List.FromFn.{length-range_with_len}
-use Rattle.path_oram.specs.Slots.{slot_of}
-use Rattle.path_oram.specs.Whole.{IsWhole}
+use Rattle.path_oram.specs.Prelude.{slot_of, IsWhole}
 use Rattle.path_oram.proofs.Beginning.{first_whole, tree_size}
 use Rattle.path_oram.proofs.Found.{begun}
 use Rattle.path_oram.proofs.positions.Positions.new.Goals as goal

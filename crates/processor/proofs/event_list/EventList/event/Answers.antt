@@ -1,5 +1,5 @@
 use Rattle.std.proofs.Common.{ap, ◌∙◌}
-use Rattle.processor.specs.EventLists.{event_of, entry_words}
+use Rattle.processor.specs.Prelude.{event_of, entry_words}
 use Rattle.processor.proofs.KeptEvents.{event_exists, told_at, entry_within}
 use Rattle.processor.proofs.event_list.EventList.event.Goals as goal
 

@@ -1,5 +1,5 @@
 use Rattle.std.proofs.Common.{◌∙◌, ap, leb, arith}
-use Rattle.lt_isa.specs.Events.{observed_of}
+use Rattle.lt_isa.specs.Prelude.{observed_of}
 use Rattle.processor.proofs.KeptEvents.{full_of_events, full_of_words}
 use Rattle.processor.proofs.event_list.EventList.is_full_for.Goals as goal
 

@@ -1,5 +1,5 @@
 use Rattle.std.proofs.Common.{[], ap, sym, arith}
-use Rattle.processor.specs.ListWatching.{Told, word_count}
+use Rattle.processor.specs.Prelude.{Told, word_count}
 use Rattle.processor.proofs.KeptEvents.{events_of-none}
 use Rattle.processor.proofs.event_list.EventList.new.Goals as goal
 

@@ -1,5 +1,5 @@
 use Rattle.std.proofs.Common.{◌∙◌, ap, arith, length-append, ◌∷◌, [], refl, length, ◌≡◌}
-use Rattle.lt_isa.specs.Events.{observed_of}
+use Rattle.lt_isa.specs.Prelude.{observed_of}
 use Rattle.processor.proofs.KeptEvents.{entry_of, room_for_one, room_for_words, pushed_within, pushed_counted, pushed_seen}
 use Rattle.processor.proofs.event_list.EventList.push.Goals as goal
 

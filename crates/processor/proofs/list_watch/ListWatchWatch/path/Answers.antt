@@ -1,6 +1,6 @@
 use Rattle.std.proofs.Common.{◌∷◌, ℕ, [], ◌++◌, length, ap, ◌∙◌}
 use Rattle.processor.specs.declared.list_watch.ShownPaths.{ShownPaths}
-use Rattle.processor.specs.ListWatching.{path_at}
+use Rattle.processor.specs.Prelude.{path_at}
 use Rattle.processor.proofs.KeptPaths.{keeps-path}
 use Rattle.processor.proofs.list_watch.ListWatchWatch.path.Goals as goal
 

@@ -1,6 +1,5 @@
 use Rattle.std.proofs.Common.{◌∷◌, [], ◌++◌, ap, ◌∙◌}
-use Rattle.lt_isa.specs.Events.{observed_of}
-use Rattle.lt_isa.specs.Trace.{seen_at}
+use Rattle.lt_isa.specs.Prelude.{observed_of, seen_at}
 use Rattle.processor.proofs.KeptPaths.{keeps-event}
 use Rattle.processor.proofs.list_watch.ListWatchWatch.seen.Goals as goal
 

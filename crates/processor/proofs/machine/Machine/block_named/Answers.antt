@@ -1,7 +1,6 @@
 use Rattle.std.proofs.Common.{◌≡◌, ◌<◌, get_or, ap, ◌∙◌, subst, arith}
 use Rattle.std.proofs.Math.Nat.{mod-lt}
-use Rattle.lt_isa.specs.Object.{blocks_of, no_bank}
-use Rattle.lt_isa.specs.Ranges.{IsInRange}
+use Rattle.lt_isa.specs.Prelude.{blocks_of, no_bank, IsInRange}
 use Rattle.lt_isa.proofs.Cycles.{blocks-least, blocks-most}
 use Rattle.processor.proofs.machine.Machine.block_named.Goals as goal
 

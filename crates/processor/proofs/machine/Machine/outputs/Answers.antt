@@ -1,8 +1,7 @@
 use Rattle.std.proofs.Common.{◌≡◌, ◌<◌, length, get_or, map, sym, ap, ◌∙◌, subst, arith}
 use Rattle.std.proofs.lemmas.List.{take_all}
-use Rattle.lt_isa.specs.Ranges.{IsInRange}
-use Rattle.lt_isa.specs.Outputs.{symbol_words, outputs}
-use Rattle.processor.specs.Machines.{LiesIn}
+use Rattle.lt_isa.specs.Prelude.{IsInRange, symbol_words, outputs}
+use Rattle.processor.specs.Prelude.{LiesIn}
 use Rattle.processor.proofs.Sounds.{LiesIn-at}
 use Rattle.processor.proofs.machine.Machine.outputs.Goals as goal
 

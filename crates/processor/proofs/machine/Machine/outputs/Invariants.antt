@@ -1,5 +1,5 @@
 use Rattle.std.proofs.Common.{◌≡◌, map, take}
-use Rattle.lt_isa.specs.Outputs.{symbol_words}
+use Rattle.lt_isa.specs.Prelude.{symbol_words}
 use Rattle.processor.proofs.machine.Machine.outputs.Given as goal
 
 abbrev pub invariant-loop-symbol : goal.invariant-loop-symbol

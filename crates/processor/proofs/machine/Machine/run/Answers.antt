@@ -1,15 +1,14 @@
 use Rattle.std.proofs.Common.{refl, sym, ap, ◌∙◌, subst, arith}
 use Rattle.gr_base.proofs.Counts.{rose_behind}
 use Rattle.lt_isa.proofs.Steps.{step_start-least}
-use Rattle.banks.specs.Accesses.{accesses_from}
+use Rattle.banks.specs.Prelude.{accesses_from}
 use Rattle.processor.specs.declared.ends.End.TheVariants.{Halted, Spent}
-use Rattle.processor.specs.Ends.{BrokeOff}
-use Rattle.processor.specs.ObliviousBanks.{ComeBy, ShowsOn}
+use Rattle.processor.specs.Prelude.{BrokeOff, ComeBy, ShowsOn}
 use Rattle.processor.proofs.QuickRuns.{progress_on}
 use Rattle.processor.proofs.Progress.{Ended, starts, step_further, step_later, ends_late, ends_faulty, ends_halted, breaks}
 use Rattle.processor.proofs.machine.Machine.run.Given.{Over}
-use Rattle.processor.proofs.machine.Machine.run.Goals as goal
 use Rattle.processor.proofs.machine.Machine.run.Goals.{After-die, After-die-in-Err, After-running, In-Ok-Faulted}
+use Rattle.processor.proofs.machine.Machine.run.Goals as goal
 
 pub running-init : goal.running-init
 running-init g c = record {

@@ -1,7 +1,6 @@
 use Rattle.std.proofs.Common.{◌≡◌, subst}
-use Rattle.lt_isa.specs.Object.{Parts}
-use Rattle.lt_isa.specs.Step.{step_start}
-use Rattle.processor.specs.Quick.{StandsForStep}
+use Rattle.lt_isa.specs.Prelude.{Parts, step_start}
+use Rattle.processor.specs.Prelude.{StandsForStep}
 use Rattle.processor.proofs.Pausing.{pauses}
 use Rattle.processor.proofs.machine.Machine.run_to_access.Goals as goal
 

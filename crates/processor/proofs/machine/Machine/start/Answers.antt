@@ -1,5 +1,5 @@
 use Rattle.std.proofs.Common.{ap, sym, ◌∙◌}
-use Rattle.lt_isa.specs.Step.{start_of}
+use Rattle.lt_isa.specs.Prelude.{start_of}
 use Rattle.lt_isa.proofs.Steps.{step_start-at, step_start-outside}
 use Rattle.processor.proofs.machine.Machine.start.Goals as goal
 

@@ -1,10 +1,9 @@
 use Rattle.std.proofs.Common.{◌<◌, ◌^◌, sym, ◌∙◌, subst, arith}
-use Rattle.lt_isa.specs.Step.{step}
+use Rattle.lt_isa.specs.Prelude.{step}
 use Rattle.lt_isa.proofs.Steps.{step-at, step-outside, step_start-least}
 use Rattle.banks.proofs.AccessRuns.{accessed-at, accessed-outside}
 use Rattle.std.specs.Prelude.{IfSome}
-use Rattle.processor.specs.Quick.{IsLeft}
-use Rattle.processor.specs.Stepping.{CameTo, StaysIfFaulted}
+use Rattle.processor.specs.Prelude.{IsLeft, CameTo, StaysIfFaulted}
 use Rattle.processor.proofs.Progress.{came_to, stays_if_faulted}
 use Rattle.processor.proofs.ToldSteps.{broke_step, told_nothing, told_step}
 use Rattle.processor.proofs.machine.Machine.step.Goals as goal

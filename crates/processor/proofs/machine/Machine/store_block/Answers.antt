@@ -1,8 +1,6 @@
-use Rattle.std.proofs.Common.{get_or, ap, sym, ◌∙◌}
-use Rattle.lt_isa.specs.Machine.{Unbound}
-use Rattle.lt_isa.specs.Costs.{cost_of}
+use Rattle.std.proofs.Common.{get_or, ap, sym, ◌∙◌, false}
+use Rattle.lt_isa.specs.Prelude.{Unbound, cost_of}
 use Rattle.lt_isa.specs.declared.instructions.Instr.TheVariants.{Stb}
-use Rattle.std.proofs.Common.{false}
 use Rattle.processor.proofs.Executed.{store_executes}
 use Rattle.processor.proofs.machine.Machine.store_block.Goals as goal
 

@@ -1,13 +1,12 @@
 use Rattle.std.proofs.Common.{◌≡◌, ◌<◌, get_or, sym, ap, ◌∙◌, subst, rules}
 use Rattle.std.proofs.lemmas.Int.{wraps}
 use Rattle.lt_isa.specs.declared.symbols.Symbol.{Symbol}
-use Rattle.lt_isa.specs.Ranges.{IsInRange}
-use Rattle.lt_isa.specs.Outputs.{symbol_word}
-use Rattle.processor.specs.Machines.{LiesIn}
+use Rattle.lt_isa.specs.Prelude.{IsInRange, symbol_word}
+use Rattle.processor.specs.Prelude.{LiesIn}
 use Rattle.processor.proofs.Sounds.{LiesIn-at, there_is, if_there_is}
 use Rattle.processor.proofs.machine.Machine.word.Given.{Over}
-use Rattle.processor.proofs.machine.Machine.word.Goals as goal
 use Rattle.processor.proofs.machine.Machine.word.Goals.{After-index-symbols-symbol}
+use Rattle.processor.proofs.machine.Machine.word.Goals as goal
 
 -- the symbol of that number is read
 read : (g : Over) (c : After-index-symbols-symbol g)

@@ -3,7 +3,7 @@ use Rattle.std.specs.Int.{w64, cast_signed, cast_unsigned}
 use Rattle.std.specs.List.{range_with_len}
 use Rattle.std.proofs.lemmas.Int.{wraps}
 use Rattle.std.proofs.lemmas.List.FromFn.{map-range_with_len_more}
-use Rattle.lt_isa.specs.Outputs.{symbol_word, symbol_words}
+use Rattle.lt_isa.specs.Prelude.{symbol_word, symbol_words}
 use Rattle.processor.proofs.machine.Machine.words_of.Goals as goal
 
 pub loop-index-preserved : goal.loop-index-preserved

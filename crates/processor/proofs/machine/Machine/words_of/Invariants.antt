@@ -1,6 +1,6 @@
 use Rattle.std.proofs.Common.{◌≡◌, map}
 use Rattle.std.specs.List.{range_with_len}
-use Rattle.lt_isa.specs.Outputs.{symbol_word}
+use Rattle.lt_isa.specs.Prelude.{symbol_word}
 use Rattle.processor.proofs.machine.Machine.words_of.Given as goal
 
 abbrev pub invariant-loop-index : goal.invariant-loop-index

@@ -1,5 +1,5 @@
 use Rattle.std.proofs.Common.{◌<◌, length, sym, ap, ◌∙◌, subst, arith}
-use Rattle.banks.specs.Banks.{block_numbered}
+use Rattle.banks.specs.Prelude.{block_numbered}
 use Rattle.processor.proofs.BankLists.{bank_behind, bank_kept, same_memories}
 use Rattle.processor.proofs.memories.Banks.read.Goals as goal
 

@@ -1,8 +1,8 @@
 use Rattle.std.proofs.Common.{◌≡◌, ◌<◌, length, sym, ap, ◌∙◌, subst, arith, rules}
 use Rattle.std.proofs.lemmas.Int.{wraps}
-use Rattle.lt_isa.specs.Machine.{word_in}
-use Rattle.banks.specs.Banks.{block_numbered}
-use Rattle.processor.specs.Machines.{bank_numbered}
+use Rattle.lt_isa.specs.Prelude.{word_in}
+use Rattle.banks.specs.Prelude.{block_numbered}
+use Rattle.processor.specs.Prelude.{bank_numbered}
 use Rattle.processor.proofs.BankLists.{bank_behind}
 use Rattle.processor.proofs.memories.Banks.word.Goals as goal
 

@@ -1,6 +1,6 @@
 use Rattle.std.proofs.Common.{◌≡◌, length, ap, ◌∙◌, true, arith}
 use Rattle.std.specs.Vec.{with_items}
-use Rattle.lt_isa.specs.Machine.{Bound}
+use Rattle.lt_isa.specs.Prelude.{Bound}
 use Rattle.processor.proofs.Cells.{pad_of-set, refilled}
 use Rattle.processor.proofs.scratchpad.Scratchpad.load.Goals as goal
 

@@ -1,7 +1,7 @@
 use Rattle.std.proofs.Common.{◌<◌, length, ap, ◌∙◌, arith}
 use Rattle.std.proofs.Math.Facts.{to_z-of_z}
 use Rattle.std.specs.Vec.{with_item}
-use Rattle.processor.specs.Scratchpads.{slot_with_word, cell_slot}
+use Rattle.processor.specs.Prelude.{slot_with_word, cell_slot}
 use Rattle.processor.proofs.Cells.{pad_of-set, slots-at, with_word-cell}
 use Rattle.processor.proofs.scratchpad.Scratchpad.set_word.Goals as goal
 

@@ -1,6 +1,6 @@
 use Rattle.std.proofs.Common.{◌≡◌, length, map, replicate}
-use Rattle.lt_isa.specs.Machine.{Unbound}
-use Rattle.processor.specs.Scratchpads.{cell_slot, HaveRoom}
+use Rattle.lt_isa.specs.Prelude.{Unbound}
+use Rattle.processor.specs.Prelude.{cell_slot, HaveRoom}
 use Rattle.processor.proofs.scratchpad.Scratchpad.unbound_cells.Given as goal
 
 abbrev pub invariant-loop : goal.invariant-loop

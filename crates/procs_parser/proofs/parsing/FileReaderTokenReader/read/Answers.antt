@@ -1,8 +1,7 @@
 use Rattle.std.proofs.Common.{[]}
 use Rattle.std.proofs.lemmas.Result.{on_ok_weaker, IfErr-weaker}
 use Rattle.src_parser.proofs.SeveralTokens.{reads_both}
-use Rattle.procs_parser.specs.FileAdvances.{Between, taken}
-use Rattle.procs_parser.specs.StatesSeen.{state_of}
+use Rattle.procs_parser.specs.Prelude.{Between, taken, state_of}
 use Rattle.procs_parser.proofs.FileLaws.{stops_explained}
 use Rattle.procs_parser.proofs.parsing.FileReaderTokenReader.read.Goals as goal
 

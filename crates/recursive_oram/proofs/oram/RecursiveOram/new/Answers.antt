@@ -1,10 +1,8 @@
 use Rattle.std.proofs.Common.{◌≡◌, ℕ, ◌+◌, ◌*◌, ◌/◌, ◌<◌, List, length, map, All, ap, ◌∙◌, subst, arith}
 use Rattle.std.specs.Result.{IfOk}
 use Rattle.banks.proofs.Blocks.{length-cut}
-use Rattle.path_oram.specs.Words.{first_words}
-use Rattle.recursive_oram.specs.Levels.{shown_ahead}
-use Rattle.recursive_oram.specs.RecLeaves.{AreSizes, rec_leaves, size_of, words_made}
-use Rattle.recursive_oram.specs.RecursiveOrams.{levels_of, all_trees}
+use Rattle.path_oram.specs.Prelude.{first_words}
+use Rattle.recursive_oram.specs.Prelude.{shown_ahead, AreSizes, rec_leaves, size_of, words_made, levels_of, all_trees}
 use Rattle.recursive_oram.proofs.oram.RecursiveOram.new.Goals as goal
 
 pub over-requires : goal.over-requires

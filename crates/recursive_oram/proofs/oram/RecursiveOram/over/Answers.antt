@@ -1,12 +1,8 @@
 use Rattle.std.proofs.Common.{◌≡◌, ◌<◌, ◌^◌, ◌∷◌, length, map, refl, sym, ap, ap₂, ◌∙◌, subst, arith}
 use Rattle.std.specs.List.{All}
-use Rattle.path_oram.specs.Places.{first_places}
-use Rattle.path_oram.specs.Words.{first_words, leaf_of}
-use Rattle.path_oram.specs.Whole.{IsHeightFor}
+use Rattle.path_oram.specs.Prelude.{first_places, first_words, leaf_of, IsHeightFor}
 use Rattle.path_oram.proofs.Started.{leaf_count, leaves_below}
-use Rattle.recursive_oram.specs.Making.{IsMaking}
-use Rattle.recursive_oram.specs.PositionMaps.{IsPositionMap}
-use Rattle.recursive_oram.specs.RecLeaves.{AreSizes, size_of}
+use Rattle.recursive_oram.specs.Prelude.{IsMaking, IsPositionMap, AreSizes, size_of}
 use Rattle.recursive_oram.proofs.Counted.{map-sizes}
 use Rattle.recursive_oram.proofs.Made.{making-done, making-shown, making-start}
 use Rattle.recursive_oram.proofs.oram.RecursiveOram.over.Given.{Over}

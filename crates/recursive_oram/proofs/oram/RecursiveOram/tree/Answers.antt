@@ -1,8 +1,7 @@
 use Rattle.std.proofs.Common.{◌≡◌, ◌+◌, ◌-◌, ◌<◌, Some, pos, length, get_or, suc, sym, ap, ◌∙◌, subst, arith}
 use Rattle.std.specs.Prelude.{slice_get}
-use Rattle.path_oram.specs.Trees.{IsTree, BlockTree}
-use Rattle.recursive_oram.specs.PositionMaps.{kept_leaf}
-use Rattle.recursive_oram.specs.RecursiveOrams.{all_trees}
+use Rattle.path_oram.specs.Prelude.{IsTree, BlockTree}
+use Rattle.recursive_oram.specs.Prelude.{kept_leaf, all_trees}
 use Rattle.recursive_oram.proofs.Kept.{kept-above, kept-first, last-above, last-first, wide-above, whole-above}
 use Rattle.recursive_oram.proofs.oram.RecursiveOram.tree.Goals as goal
 

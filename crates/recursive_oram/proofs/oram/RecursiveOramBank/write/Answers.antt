@@ -1,8 +1,6 @@
 use Rattle.std.proofs.Common.{◌≡◌, ◌++◌, ◌∷◌, take, drop, length, sym, ap, subst, arith}
 use Rattle.path_oram.proofs.Written.{overwritten}
-use Rattle.recursive_oram.specs.Descending.{IsDescent}
-use Rattle.recursive_oram.specs.Levels.{shown_ahead}
-use Rattle.recursive_oram.specs.RecursiveOrams.{levels_of, all_trees}
+use Rattle.recursive_oram.specs.Prelude.{IsDescent, shown_ahead, levels_of, all_trees}
 use Rattle.recursive_oram.proofs.ComingDown.{descent-shown}
 use Rattle.recursive_oram.proofs.oram.RecursiveOramBank.write.Goals as goal
 

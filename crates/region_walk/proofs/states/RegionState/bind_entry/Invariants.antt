@@ -1,4 +1,4 @@
-use Rattle.region_walk.specs.Entries.{BindsEntry}
+use Rattle.region_walk.specs.Prelude.{BindsEntry}
 use Rattle.region_walk.proofs.states.RegionState.bind_entry.Given as goal
 
 abbrev pub invariant-loop-slot : goal.invariant-loop-slot

@@ -1,4 +1,4 @@
-use Rattle.region_walk.specs.Entries.{HoldsEntry}
+use Rattle.region_walk.specs.Prelude.{HoldsEntry}
 use Rattle.region_walk.proofs.states.RegionState.hold_entry.Given as goal
 
 abbrev pub invariant-loop-register : goal.invariant-loop-register

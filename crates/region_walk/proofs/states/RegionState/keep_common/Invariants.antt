@@ -1,7 +1,6 @@
 use Rattle.std.proofs.Common.{◌≡◌, ◌<◌, ◌≤◌, ℕ, length, None}
 use Rattle.region_walk.specs.declared.states.Slot.TheVariants.{Any}
-use Rattle.region_walk.specs.Slots.{IsCommonOf}
-use Rattle.region_walk.specs.States.{number_in, slot_at}
+use Rattle.region_walk.specs.Prelude.{IsCommonOf, number_in, slot_at}
 use Rattle.region_walk.proofs.states.RegionState.keep_common.Given as goal
 
 abbrev pub invariant-loop-register : goal.invariant-loop-register

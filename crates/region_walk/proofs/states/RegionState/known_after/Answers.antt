@@ -1,6 +1,5 @@
-use Rattle.std.proofs.Common.{◌≡◌, ℕ, Bool, List, Option, length, refl, ap, ◌∙◌, arith}
-use Rattle.trace_patterns.specs.Known.{Known, start_known}
-use Rattle.std.proofs.Common.{get_or, true, None}
+use Rattle.std.proofs.Common.{◌≡◌, ℕ, Bool, List, Option, length, refl, ap, ◌∙◌, arith, get_or, true, None}
+use Rattle.trace_patterns.specs.Prelude.{Known, start_known}
 use Rattle.region_walk.proofs.EntryStates.{start-secret, start-banks, start-bank, known_of-same}
 use Rattle.region_walk.proofs.states.RegionState.known_after.Goals as goal
 

@@ -1,8 +1,7 @@
 use Rattle.std.proofs.Common.{◌≡◌, ◌<◌, ◌≤◌, ℕ, length, None}
 use Rattle.std.specs.Prelude.{is_none}
-use Rattle.trace_patterns.specs.Known.{is_secret, bank_known}
-use Rattle.region_walk.specs.Slots.{bank_of}
-use Rattle.region_walk.specs.States.{number_in, slot_at}
+use Rattle.trace_patterns.specs.Prelude.{is_secret, bank_known}
+use Rattle.region_walk.specs.Prelude.{bank_of, number_in, slot_at}
 use Rattle.region_walk.proofs.states.RegionState.known_after.Given as goal
 
 abbrev pub invariant-loop-register : goal.invariant-loop-register

@@ -1,8 +1,7 @@
 use Rattle.std.proofs.Common.{◌≡◌, sym, ap, ◌∙◌, Some, None}
 use Rattle.std.specs.Prelude.{option_map}
-use Rattle.src_tree.specs.Trees.{source_of}
-use Rattle.src_parser.specs.Advances.{program_of}
-use Rattle.src_parser.specs.Seen.{state_of}
+use Rattle.src_tree.specs.Prelude.{source_of}
+use Rattle.src_parser.specs.Prelude.{program_of, state_of}
 use Rattle.src_parser.proofs.Places.{cut_short}
 use Rattle.src_parser.proofs.Refused.{program_laws}
 use Rattle.src_parser.proofs.SeveralTokens.{cut_at_end, whole_at_end}

@@ -1,6 +1,5 @@
 use Rattle.std.proofs.lemmas.Result.{on_ok_weaker, IfErr-weaker}
-use Rattle.src_parser.specs.Advances.{advanced}
-use Rattle.src_parser.specs.Seen.{state_of}
+use Rattle.src_parser.specs.Prelude.{advanced, state_of}
 use Rattle.src_parser.proofs.Places.{stops_explained}
 use Rattle.src_parser.proofs.Refused.{start}
 use Rattle.src_parser.proofs.SeveralTokens.{reads_both}

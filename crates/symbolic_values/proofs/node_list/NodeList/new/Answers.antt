@@ -1,5 +1,5 @@
 use Rattle.std.proofs.Common.{refl}
-use Rattle.symbolic_values.specs.StoredNodes.{nodes_of}
+use Rattle.symbolic_values.specs.Prelude.{nodes_of}
 use Rattle.symbolic_values.proofs.node_list.NodeList.new.Goals as goal
 
 pub returns : goal.returns

@@ -1,5 +1,5 @@
 use Rattle.std.proofs.Common.{length}
-use Rattle.symbolic_values.specs.Chains.{HasSearchedTo, bucket_of}
+use Rattle.symbolic_values.specs.Prelude.{HasSearchedTo, bucket_of}
 use Rattle.symbolic_values.proofs.node_table.NodeTable.find.Given as goal
 
 abbrev pub invariant-loop-link : goal.invariant-loop-link

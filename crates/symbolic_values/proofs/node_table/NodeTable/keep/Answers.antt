@@ -1,6 +1,6 @@
 use Rattle.std.proofs.Common.{◌≡◌, ◌≤◌, ◌∙◌, ℕ, List, length, sym, ap, subst, arith}
 use Rattle.std.proofs.lemmas.List.{with_items_is}
-use Rattle.symbolic_values.specs.Chains.{AreChained, bucket_of}
+use Rattle.symbolic_values.specs.Prelude.{AreChained, bucket_of}
 use Rattle.symbolic_values.proofs.ChainLaws.{indexed-take}
 use Rattle.symbolic_values.proofs.node_table.NodeTable.keep.Goals as goal
 

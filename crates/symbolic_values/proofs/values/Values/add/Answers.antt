@@ -1,7 +1,7 @@
 use Rattle.std.proofs.Common.{◌≡◌, subst}
 use Rattle.std.specs.Prelude.{IfOk, OnErr}
 use Rattle.std.proofs.lemmas.Result.{IfOk-weaker}
-use Rattle.symbolic_values.specs.Tables.{IsTable, PlacedAt}
+use Rattle.symbolic_values.specs.Prelude.{IsTable, PlacedAt}
 use Rattle.symbolic_values.proofs.TableLaws.{placed_number, placed_keeps, answered_table}
 use Rattle.symbolic_values.proofs.values.Values.add.Goals as goal
 

@@ -1,5 +1,5 @@
 use Rattle.std.proofs.Common.{subst}
-use Rattle.symbolic_values.specs.Tables.{IsTable}
+use Rattle.symbolic_values.specs.Prelude.{IsTable}
 use Rattle.symbolic_values.proofs.TableLaws.{table-first}
 use Rattle.symbolic_values.proofs.values.Values.keep.Goals as goal
 

@@ -1,6 +1,6 @@
 use Rattle.std.proofs.Common.{None, sym, ap, ◌∙◌, arith}
 use Rattle.std.proofs.lemmas.List.{get_or_default}
-use Rattle.trace_patterns.specs.Known.{Known, bank_known, claimed_bank}
+use Rattle.trace_patterns.specs.Prelude.{Known, bank_known, claimed_bank}
 use Rattle.trace_patterns.proofs.Masks.{get_or-claims}
 use Rattle.trace_patterns.proofs.known.Known.bank.Goals as goal
 

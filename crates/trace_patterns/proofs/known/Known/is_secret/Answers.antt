@@ -1,6 +1,6 @@
 use Rattle.std.proofs.Common.{ℕ, ◌==◌, true, sym, ap, ◌∙◌}
 use Rattle.std.proofs.lemmas.Nat.Bits.{shr_and_one}
-use Rattle.trace_patterns.specs.Known.{Known, is_secret}
+use Rattle.trace_patterns.specs.Prelude.{Known, is_secret}
 use Rattle.trace_patterns.proofs.Masks.{get_or-marks}
 use Rattle.trace_patterns.proofs.known.Known.is_secret.Goals as goal
 

@@ -1,5 +1,5 @@
 use Rattle.std.proofs.Common.{sym, ap, ◌∙◌, arith}
-use Rattle.trace_patterns.specs.Known.{Known, marks, claims, registers_fit}
+use Rattle.trace_patterns.specs.Prelude.{Known, marks, claims, registers_fit}
 use Rattle.trace_patterns.proofs.Masks.{registers_fit-masks}
 use Rattle.trace_patterns.proofs.known.Known.registers_fit.Goals as goal
 

@@ -1,5 +1,5 @@
 use Rattle.std.proofs.Common.{ℕ, List, Option, ap, ◌∙◌, arith}
-use Rattle.trace_patterns.specs.Known.{Known, marks, set_bank}
+use Rattle.trace_patterns.specs.Prelude.{Known, marks, set_bank}
 use Rattle.trace_patterns.proofs.Masks.{claims-set}
 use Rattle.trace_patterns.proofs.known.Known.set_bank.Goals as goal
 

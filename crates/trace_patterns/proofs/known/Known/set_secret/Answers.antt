@@ -1,5 +1,5 @@
 use Rattle.std.proofs.Common.{ℕ, Bool, true, false, List, sym, ap, ◌∙◌}
-use Rattle.trace_patterns.specs.Known.{Known, claims, set_secret}
+use Rattle.trace_patterns.specs.Prelude.{Known, claims, set_secret}
 use Rattle.trace_patterns.proofs.Masks.{marks-set_bit, marks-clear_bit}
 use Rattle.trace_patterns.proofs.known.Known.set_secret.Goals as goal
 

@@ -1,5 +1,5 @@
 use Rattle.std.proofs.Common.{◌≡◌, false, sym, arith}
-use Rattle.trace_patterns.specs.Known.{slot_fits, slots_fit}
+use Rattle.trace_patterns.specs.Prelude.{slot_fits, slots_fit}
 use Rattle.trace_patterns.proofs.Ranges.{all_in, fails_at}
 use Rattle.trace_patterns.proofs.known.Known.slots_fit.Goals as goal
 

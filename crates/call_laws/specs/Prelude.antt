@@ -1,0 +1,23 @@
+-- The definitions that clauses and proofs above cite, passed on from one place. Declares nothing.
+unfoldable pub use Rattle.call_laws.specs.Assemble.{assemble_work}
+unfoldable pub use Rattle.call_laws.specs.BusAgrees.{BusAgrees}
+unfoldable pub use Rattle.call_laws.specs.Calls.{CallsAsMeant, MeansItsCalls}
+unfoldable pub use Rattle.call_laws.specs.Check.{check_work}
+pub use Rattle.call_laws.specs.CompiledRuns.{RunsAsMeant}
+unfoldable pub use Rattle.call_laws.specs.CompiledRuns.{CompiledRuns, IsStoreOf}
+pub use Rattle.call_laws.specs.CompiledTexts.{TextsAsMeant}
+unfoldable pub use Rattle.call_laws.specs.CompiledTexts.{CompiledTexts}
+unfoldable pub use Rattle.call_laws.specs.Disassemble.{disassemble_work}
+unfoldable pub use Rattle.call_laws.specs.Evaluate.{evaluate_work, evaluates_on, on_left}
+pub use Rattle.call_laws.specs.Headline.{Compiles, Evaluates, HasRun, Headline, HoldsInputs, HoldsObject, HoldsOblivious, Infers, IsObjectOf, NameOutput, Runs, Shares, Traces}
+unfoldable pub use Rattle.call_laws.specs.Headline.{AllHeld, SpellsProgram, done_status, with_output}
+pub use Rattle.call_laws.specs.HeadlineFollows.{Tells}
+unfoldable pub use Rattle.call_laws.specs.HeadlineFollows.{HasHeadline, HeadlineFollows}
+unfoldable pub use Rattle.call_laws.specs.Infer.{infer_work, infers_to, on_inferred}
+pub use Rattle.call_laws.specs.OneAnswer.{AreOneBut, DoneBut, HoldRun, OneAnswer, OneSource, Same, SomeAnswer}
+unfoldable pub use Rattle.call_laws.specs.OneAnswer.{AreBytes, HasOneAnswer, HasOneAnswerBut, HasSomeAnswer, TraceAgrees}
+pub use Rattle.call_laws.specs.Promises.{Answers, AnswersSo, CallLaws, IsAnswered, IsCalm, IsCompiledFile, IsInferredFile, IsSafe, IsUnreadable, IsWrittenFor, NoAnswer, NoMemory, NoMemoryCut, OfAnswer, OnlyOutput, Promises, ReadFailed, StandsAtFour, UnreadCut, WriteFailed}
+unfoldable pub use Rattle.call_laws.specs.Promises.{Gained, IsDone, IsOutput, PromisesFollow}
+unfoldable pub use Rattle.call_laws.specs.Sample.{on_sampled, sample_work, samples_on}
+unfoldable pub use Rattle.call_laws.specs.SampleTree.{sample_program, sample_turn}
+unfoldable pub use Rattle.call_laws.specs.Verbs.{work_of, works}
