@@ -85,6 +85,14 @@ impl Sink for SureSink {
         }
     }
 
+    /// How many bytes the sink was given, up to 2^64 - 1.
+    fn mark(&self) -> usize
+        ensures put { result ≡ self.now.put }
+        ensures told { IfSome self.now.held (λ bytes. result ≡ length bytes) }
+    {
+        self.put
+    }
+
     /// Does nothing.
     fn flush(&mut self) -> Result<(), SinkFailed>
         ensures ok { IsOk result }
@@ -92,13 +100,5 @@ impl Sink for SureSink {
     {
         // Nothing is held back.
         Ok(())
-    }
-
-    /// How many bytes the sink was given, up to 2^64 - 1.
-    fn mark(&self) -> usize
-        ensures put { result ≡ self.now.put }
-        ensures told { IfSome self.now.held (λ bytes. result ≡ length bytes) }
-    {
-        self.put
     }
 }

@@ -3,7 +3,7 @@ ghost use Rattle.lt_isa.specs.Prelude.{most_banks, most_block_log};
 ghost use Rattle.object_file.specs.Reading.{Decodes, magic_at, version_at, cycles_at, window_at, profile_at, bank_at, items_at, banks_at};
 
 use crate::errors::DecodeError;
-use crate::fields::{u8_field, u16_at, u32_at, u32_field};
+use crate::fields::{Read, u8_field, u16_at, u32_at, u32_field};
 use lt_isa::limits::{
     FEWEST_BANKS, LEAST_BLOCK_LOG, MOST_BANKS, MOST_BLOCK_LOG, MOST_CYCLES, MOST_LATENCY,
     MOST_PERIOD, MOST_TAKEN, most_blocks,
@@ -43,7 +43,7 @@ fn is_version(version: u16) -> bool
 
 /// The version, and the bytes after it.
 #[tactic(auto, unfolding(crate::specs::Reading::version_at))]
-fn version(all: u32, bytes: &[u8]) -> Result<(u16, &[u8]), DecodeError>
+fn version(all: u32, bytes: &[u8]) -> Read<'_, u16>
     ensures { Decodes (λ x. (x.0, x.1.now)) result (version_at all bytes.now) }
 {
     let (version, rest) = u16_at(all, bytes)?;
@@ -55,7 +55,7 @@ fn version(all: u32, bytes: &[u8]) -> Result<(u16, &[u8]), DecodeError>
 
 /// The size of blocks and the cycles of instructions, and the bytes after them.
 #[tactic(auto, unfolding(crate::specs::Reading::cycles_at))]
-fn cycles(all: u32, bytes: &[u8]) -> Result<(Profile, &[u8]), DecodeError>
+fn cycles(all: u32, bytes: &[u8]) -> Read<'_, Profile>
     ensures read { Decodes (λ x. (x.0, x.1.now)) result (cycles_at all bytes.now) }
     ensures small { IfOk result (λ x. x.0.block_log ≤ most_block_log) }
 {
@@ -84,7 +84,7 @@ fn cycles(all: u32, bytes: &[u8]) -> Result<(Profile, &[u8]), DecodeError>
 
 /// The profile with the window that is read, and the bytes after it.
 #[tactic(auto, unfolding(crate::specs::Reading::window_at))]
-fn window(all: u32, profile: Profile, bytes: &[u8]) -> Result<(Profile, &[u8]), DecodeError>
+fn window(all: u32, profile: Profile, bytes: &[u8]) -> Read<'_, Profile>
     ensures read { Decodes (λ x. (x.0, x.1.now)) result (window_at all profile bytes.now) }
     ensures same { IfOk result (λ x. x.0.block_log ≡ profile.block_log) }
 {
@@ -102,7 +102,7 @@ fn window(all: u32, profile: Profile, bytes: &[u8]) -> Result<(Profile, &[u8]), 
 
 /// The version and the profile, and the bytes after them.
 #[tactic(auto, unfolding(crate::specs::Reading::profile_at))]
-pub fn profile(all: u32, bytes: &[u8]) -> Result<(Profile, &[u8]), DecodeError>
+pub fn profile(all: u32, bytes: &[u8]) -> Read<'_, Profile>
     ensures read { Decodes (λ x. (x.0, x.1.now)) result (profile_at all bytes.now) }
     ensures small { IfOk result (λ x. x.0.block_log ≤ most_block_log) }
 {
@@ -116,11 +116,7 @@ pub fn profile(all: u32, bytes: &[u8]) -> Result<(Profile, &[u8]), DecodeError>
 
 /// The next bank after the banks `before`, and the bytes after it.
 #[tactic(auto, unfolding(crate::specs::Reading::bank_at))]
-fn bank<'a>(
-    all: u32,
-    before: &[BankSpec],
-    bytes: &'a [u8],
-) -> Result<(BankSpec, &'a [u8]), DecodeError>
+fn bank<'a>(all: u32, before: &[BankSpec], bytes: &'a [u8]) -> Read<'a, BankSpec>
     ensures { Decodes (λ x. (x.0, x.1.now)) result (bank_at all before.now bytes.now) }
 {
     let (blocks, rest) = u32_field(all, 1, u64::from(most_blocks(before.len())), bytes)?;
@@ -128,12 +124,7 @@ fn bank<'a>(
     Ok((BankSpec { blocks, latency }, rest))
 }
 
-fn bank_list(
-    alloc: Global,
-    all: u32,
-    count: u8,
-    bytes: &[u8],
-) -> Result<(Vec<BankSpec>, &[u8]), DecodeError>
+fn bank_list(alloc: Global, all: u32, count: u8, bytes: &[u8]) -> Read<'_, Vec<BankSpec>>
     ensures read { Decodes (λ x. (x.0.items, x.1.now)) result (items_at (bank_at all) count [] bytes.now) }
     ensures count { IfOk result (λ x. vec_len x.0 ≡ count) }
 {
@@ -149,7 +140,7 @@ fn bank_list(
 
 /// The banks: their number, and then as many banks. The bytes after them are returned too.
 #[tactic(auto, unfolding(crate::specs::Reading::banks_at, crate::specs::Reading::list_at))]
-pub fn banks(alloc: Global, all: u32, bytes: &[u8]) -> Result<(Vec<BankSpec>, &[u8]), DecodeError>
+pub fn banks(alloc: Global, all: u32, bytes: &[u8]) -> Read<'_, Vec<BankSpec>>
     ensures read { Decodes (λ x. (x.0.items, x.1.now)) result (banks_at all bytes.now) }
     ensures few { IfOk result (λ x. vec_len x.0 ≤ most_banks) }
 {

@@ -4,7 +4,7 @@ ghost use Rattle.lt_isa.specs.Prelude.{kind_named};
 ghost use Rattle.object_file.specs.Reading.{Decodes, kind_at, instruction_at, items_at, code_at};
 
 use crate::errors::DecodeError;
-use crate::fields::{offset_of, u8_at, u8_field, u32_field, u64_field};
+use crate::fields::{Read, offset_of, u8_at, u8_field, u32_field, u64_field};
 use byteorder::{ByteOrder, LittleEndian};
 use lt_isa::Instr;
 use lt_isa::instruction_table::{Kind, Operands, instruction_of, kind_named, limits_of};
@@ -24,7 +24,7 @@ fn byte(bytes: &[u8], place: usize) -> u8
 }
 
 #[tactic(auto, unfolding(crate::specs::Reading::kind_at))]
-fn kind(all: u32, bytes: &[u8]) -> Result<(Kind, &[u8]), DecodeError>
+fn kind(all: u32, bytes: &[u8]) -> Read<'_, Kind>
     ensures { Decodes (λ x. (x.0, x.1.now)) result (kind_at all bytes.now) }
 {
     let (opcode, rest) = u8_at(all, bytes)?;
@@ -88,7 +88,7 @@ fn whole_instruction(banks: u8, bytes: &[u8]) -> Option<Instr>
 #[cold]
 #[inline(never)]
 #[tactic(auto, unfolding(crate::specs::Reading::instruction_at))]
-fn instruction_by_fields(all: u32, banks: u8, bytes: &[u8]) -> Result<(Instr, &[u8]), DecodeError>
+fn instruction_by_fields(all: u32, banks: u8, bytes: &[u8]) -> Read<'_, Instr>
     ensures { Decodes (λ x. (x.0, x.1.now)) result (instruction_at banks all bytes.now) }
 {
     let (kind, rest) = kind(all, bytes)?;
@@ -115,7 +115,7 @@ fn instruction_list(
     banks: u8,
     count: u32,
     bytes: &[u8],
-) -> Result<(Vec<Instr>, &[u8]), DecodeError>
+) -> Read<'_, Vec<Instr>>
     ensures { Decodes (λ x. (x.0.items, x.1.now)) result
         (items_at (λ before. instruction_at banks all) count [] bytes.now) }
 {
@@ -141,13 +141,7 @@ fn instruction_list(
 /// The instructions: their number, at least `fewest`, and then as many instructions. The bytes after them are returned
 /// too.
 #[tactic(auto, unfolding(crate::specs::Reading::code_at, crate::specs::Reading::list_at))]
-pub fn code(
-    alloc: Global,
-    all: u32,
-    banks: u8,
-    fewest: u64,
-    bytes: &[u8],
-) -> Result<(Vec<Instr>, &[u8]), DecodeError>
+pub fn code(alloc: Global, all: u32, banks: u8, fewest: u64, bytes: &[u8]) -> Read<'_, Vec<Instr>>
     ensures { Decodes (λ x. (x.0.items, x.1.now)) result (code_at banks fewest all bytes.now) }
 {
     let (count, rest) = u32_field(all, fewest, MOST_INSTRUCTIONS as u64, bytes)?;

@@ -3,7 +3,7 @@ ghost use Rattle.object_file.specs.Reading.{Decodes, field_at, slots_at, note_at
 ghost use Rattle.lt_isa.specs.Prelude.{is_slot_claim};
 
 use crate::errors::DecodeError;
-use crate::fields::{offset_of, u8_at, u32_at, u32_field};
+use crate::fields::{Read, offset_of, u8_at, u32_at, u32_field};
 use lt_isa::Note;
 use lt_isa::limits::MOST_NOTES;
 use lt_isa::ranges::{is_slot_claim, next_place};
@@ -16,7 +16,7 @@ pub const NOTE_BYTES: usize = 16;
 const SLOTS: usize = 8;
 
 #[tactic(auto, unfolding(crate::specs::Reading::field_at))]
-fn claim(all: u32, banks: usize, bytes: &[u8]) -> Result<(u8, &[u8]), DecodeError>
+fn claim(all: u32, banks: usize, bytes: &[u8]) -> Read<'_, u8>
     ensures { Decodes (λ x. (x.0, x.1.now)) result (field_at 1 all (is_slot_claim banks) bytes.now) }
 {
     let (claim, rest) = u8_at(all, bytes)?;
@@ -27,7 +27,7 @@ fn claim(all: u32, banks: usize, bytes: &[u8]) -> Result<(u8, &[u8]), DecodeErro
 }
 
 #[tactic(auto, unfolding(crate::specs::Reading::slots_at))]
-fn slots(all: u32, banks: usize, bytes: &[u8]) -> Result<([u8; 8], &[u8]), DecodeError>
+fn slots(all: u32, banks: usize, bytes: &[u8]) -> Read<'_, [u8; 8]>
     ensures { Decodes (λ x. (x.0, x.1.now)) result (slots_at banks all bytes.now) }
 {
     let mut slots = [0; SLOTS];
@@ -41,12 +41,7 @@ fn slots(all: u32, banks: usize, bytes: &[u8]) -> Result<([u8; 8], &[u8]), Decod
 }
 
 #[tactic(auto, unfolding(crate::specs::Reading::note_at))]
-fn note<'a>(
-    all: u32,
-    banks: usize,
-    before: &[Note],
-    bytes: &'a [u8],
-) -> Result<(Note, &'a [u8]), DecodeError>
+fn note<'a>(all: u32, banks: usize, before: &[Note], bytes: &'a [u8]) -> Read<'a, Note>
     ensures { Decodes (λ x. (x.0, x.1.now)) result (note_at banks all before.now bytes.now) }
 {
     let (pc, rest) = u32_field(all, next_place(before), u64::from(u32::MAX), bytes)?;
@@ -56,13 +51,7 @@ fn note<'a>(
 }
 
 /// `count` notes. Room is reserved once, for no more than the bytes can encode.
-fn note_list(
-    alloc: Global,
-    all: u32,
-    banks: usize,
-    count: u32,
-    bytes: &[u8],
-) -> Result<(Vec<Note>, &[u8]), DecodeError>
+fn note_list(alloc: Global, all: u32, banks: usize, count: u32, bytes: &[u8]) -> Read<'_, Vec<Note>>
     ensures { Decodes (λ x. (x.0.items, x.1.now)) result (items_at (note_at banks all) count [] bytes.now) }
 {
     let room = (bytes.len() / NOTE_BYTES).min(count as usize);
@@ -78,12 +67,7 @@ fn note_list(
 
 /// The notes: their number, and then as many notes. The bytes after them are returned too.
 #[tactic(auto, unfolding(crate::specs::Reading::notes_at, crate::specs::Reading::list_at))]
-pub fn notes(
-    alloc: Global,
-    all: u32,
-    banks: usize,
-    bytes: &[u8],
-) -> Result<(Vec<Note>, &[u8]), DecodeError>
+pub fn notes(alloc: Global, all: u32, banks: usize, bytes: &[u8]) -> Read<'_, Vec<Note>>
     ensures { Decodes (λ x. (x.0.items, x.1.now)) result (notes_at banks all bytes.now) }
 {
     let (count, rest) = u32_field(all, 0, MOST_NOTES as u64, bytes)?;

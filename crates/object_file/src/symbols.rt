@@ -7,7 +7,7 @@ ghost use Rattle.object_file.specs.KnownNames.{AreNamesOf, GainsName};
 ghost use Rattle.object_file.specs.Reading.{Decodes, name_bytes_at, name_at, symbol_at, items_at, symbols_at};
 
 use crate::errors::DecodeError;
-use crate::fields::{offset_of, u8_field, u16_field, u32_field};
+use crate::fields::{Read, offset_of, u8_field, u16_field, u32_field};
 use gr_word::{Label, Name, Shape, name_fits};
 use lt_isa::limits::{MOST_SYMBOL_WORDS, MOST_SYMBOLS};
 use lt_isa::symbol_places::{blocks_in, first_free, last_bank, most_length};
@@ -52,7 +52,7 @@ fn name_bytes<'a>(
     before: &[Symbol],
     names: &mut Names<'a>,
     bytes: &'a [u8],
-) -> Result<(&'a [u8], &'a [u8]), DecodeError>
+) -> Read<'a, &'a [u8]>
     requires { AreNamesOf names.old before.now }
     ensures read { Decodes (λ x. (x.0.now, x.1.now)) result (name_bytes_at all count before.now bytes.now) }
     ensures name { IfOk result (λ x. IsTrue (is_name x.0.now)) }
@@ -75,7 +75,7 @@ fn name<'a>(
     before: &[Symbol],
     names: &mut Names<'a>,
     bytes: &'a [u8],
-) -> Result<(&'a [u8], &'a [u8]), DecodeError>
+) -> Read<'a, &'a [u8]>
     requires { AreNamesOf names.old before.now }
     ensures read { Decodes (λ x. (x.0.now, x.1.now)) result (name_at all before.now bytes.now) }
     ensures name { IfOk result (λ x. IsTrue (is_name x.0.now)) }
@@ -88,20 +88,18 @@ fn name<'a>(
 fn label_of(code: u8) -> Label
     ensures { result ≡ label_numbered code }
 {
-    if code == 0 {
-        Label::Public
-    } else {
-        Label::Secret
+    match code {
+        0 => Label::Public,
+        _ => Label::Secret,
     }
 }
 
 fn shape_of(code: u8) -> Shape
     ensures { result ≡ shape_numbered code }
 {
-    if code == 0 {
-        Shape::Scalar
-    } else {
-        Shape::Array
+    match code {
+        0 => Shape::Scalar,
+        _ => Shape::Array,
     }
 }
 
@@ -136,7 +134,7 @@ fn symbol<'a>(
     names: &mut Names<'a>,
     room: u32,
     bytes: &'a [u8],
-) -> Result<(Symbol, &'a [u8]), DecodeError>
+) -> Read<'a, Symbol>
     requires block_size { words ≤ 512 }
     requires room { room ≡ most_symbol_words - total_length before.now }
     requires names { AreNamesOf names.old before.now }
@@ -175,7 +173,7 @@ fn symbol_list<'a>(
     banks: &[BankSpec],
     count: u16,
     bytes: &'a [u8],
-) -> Result<(Vec<Symbol>, &'a [u8]), DecodeError>
+) -> Read<'a, Vec<Symbol>>
     requires { words ≤ 512 }
     ensures { Decodes (λ x. (x.0.items, x.1.now)) result (items_at (symbol_at words banks.now all) count [] bytes.now) }
 {
@@ -201,7 +199,7 @@ pub fn symbols<'a>(
     words: u32,
     banks: &[BankSpec],
     bytes: &'a [u8],
-) -> Result<(Vec<Symbol>, &'a [u8]), DecodeError>
+) -> Read<'a, Vec<Symbol>>
     requires { words ≤ 512 }
     ensures { Decodes (λ x. (x.0.items, x.1.now)) result (symbols_at words banks.now all bytes.now) }
 {
