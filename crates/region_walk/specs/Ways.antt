@@ -3,11 +3,13 @@
 -- project's profile.)
 use Rattle.std.specs.Prelude.{◌≡◌, ℕ, ◌+◌, ◌-◌, ◌*◌, ◌<◌, ◌≤◌, ℤ, List, length, All}
 use Rattle.lt_isa.specs.Object.{Parts}
+use Rattle.lt_isa.specs.Ranges.{IsInRange}
 use Rattle.symbolic_values.specs.declared.nodes.Node.{Node}
 use Rattle.symbolic_values.specs.Tables.{IsTable, KeepsTrees}
 use Rattle.trace_patterns.specs.declared.events.SymEvent.{SymEvent}
 use Rattle.trace_patterns.specs.Patterns.{Shown}
 use Rattle.trace_patterns.specs.Events.{over_trees, NumbersBelow}
+use Rattle.region_walk.specs.declared.arms.Arm.{Arm}
 use Rattle.region_walk.specs.declared.walks.Way.{Way}
 use Rattle.region_walk.specs.declared.walks.Found.{Found}
 use Rattle.region_walk.specs.declared.walks.Found.TheVariants.{Reaches, Stops, Memory}
@@ -16,6 +18,12 @@ use Rattle.region_walk.specs.declared.states.RegionState.{RegionState}
 use Rattle.region_walk.specs.States.{sym_of, StateFits}
 use Rattle.region_walk.specs.FuelWalk as whole
 use Rattle.region_walk.specs.declared.walks.Region.TheVariants as region
+
+-- an arm of an object in range, which ends inside the code, and has at most 64 regions around it
+pub record IsArm (arm : Arm) : Type 0 where
+  pub range : IsInRange arm.object.now
+  pub inside : arm.end < length arm.object.now.code
+  pub around : arm.depth ≤ 64
 
 -- each gap of a pattern has at most `most` cycles
 pub record GapsWithin (most : ℕ) (p : Shown SymEvent) : Type 0 where

@@ -5,6 +5,7 @@
 //! something in it. Trees are numbers of one table, so that trees share the nodes of their common parts.
 #![tactic(auto)]
 
+mod arms;
 mod behind;
 mod carries;
 mod held_numbers;

@@ -4,6 +4,7 @@ ghost use Rattle.region_walk.specs.Carrying.{IsCarried};
 ghost use Rattle.region_walk.specs.Crossings.{IsCrossing};
 ghost use Rattle.region_walk.specs.Entries.{HasEntries, KeepsEntries, KeepsCarried};
 
+use crate::arms::Arm;
 use crate::carries::{Led, carry_over};
 use crate::region_values::{EntryTable, RegionValues};
 use crate::states::RegionState;
@@ -75,17 +76,12 @@ fn cross_in(
 {
     let count = table.values.len();
     let state = RegionState::at_entry(table, known);
-    let last = (object.code().len() - 1) as u32;
-    match region_of(
-        alloc,
+    let code = Arm {
         object,
-        &mut table.values,
-        &state,
-        0,
-        place,
-        last,
-        offset,
-    ) {
+        depth: 0,
+        end: (object.code().len() - 1) as u32,
+    };
+    match region_of(alloc, &code, place, offset, &mut table.values, &state) {
         Region::Blocked { place, reason } => Crossing::Blocked { place, reason },
         Region::Memory => Crossing::Memory,
         Region::Crosses { join, way } => {
@@ -163,16 +159,12 @@ fn carry_in(
 {
     let count = table.values.len();
     let mut state = RegionState::at_entry(table, known);
-    let last = (object.code().len() - 1) as u32;
-    match carry_over(
+    let code = Arm {
         object,
-        &mut table.values,
-        &mut state,
-        0,
-        place,
-        last,
-        offset,
-    ) {
+        depth: 0,
+        end: (object.code().len() - 1) as u32,
+    };
+    match carry_over(&code, place, offset, &mut table.values, &mut state) {
         Led::Unshaped => {
             table.keep_entries(count);
             Carried::Unshaped

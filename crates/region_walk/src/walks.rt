@@ -1,16 +1,15 @@
-ghost use Rattle.std.specs.Prelude.{◌≡◌, ◌<◌, ◌≤◌, ◌+◌, ◌*◌, ◌^◌, length};
-ghost use Rattle.lt_isa.specs.Prelude.{IsInRange, IsOffset};
-ghost use Rattle.symbolic_values.specs.Prelude.{IsTable};
+ghost use Rattle.std.specs.Prelude.{◌≡◌, ◌<◌, ◌≤◌, ◌+◌, ◌^◌, length};
+ghost use Rattle.lt_isa.specs.Prelude.{IsOffset};
 ghost use Rattle.trace_patterns.specs.Prelude.{first_gap, no_events, with_gap};
 ghost use Rattle.region_walk.specs.Singles.{BranchesAt};
-ghost use Rattle.region_walk.specs.States.{StateFits};
-ghost use Rattle.region_walk.specs.Ways.{WayIsReady, IsWalk, IsNext, IsRegionWalk};
+ghost use Rattle.region_walk.specs.Carrying.{StateIsReady};
+ghost use Rattle.region_walk.specs.Ways.{IsArm, WayIsReady, IsWalk, IsNext, IsRegionWalk};
 ghost use Rattle.region_walk.specs.Arms.{GoesOnAt, IsCompared};
 
+use crate::arms::Arm;
 use crate::shapes::{RegionShape, shape_at};
 use crate::singles::{Single, single_at};
 use crate::states::RegionState;
-use lt_isa::Object;
 use std::alloc::Global;
 use symbolic_values::Values;
 use trace_patterns::{Pattern, Reason};
@@ -44,28 +43,17 @@ pub enum Region {
     Memory,
 }
 
-/// Walks code inside `depth` regions, from a place up to an end. `way` becomes what was shown up to there and what is
-/// known there.
+/// Walks an arm from a place up to its end. `way` becomes what was shown up to there and what is known there.
 #[cycle(walks)]
-pub fn walk(
-    alloc: Global,
-    object: &Object,
-    values: &mut Values,
-    way: &mut Way,
-    depth: u32,
-    start: u32,
-    end: u32,
-) -> Found
-    requires range { IsInRange object.now }
+pub fn walk(alloc: Global, arm: &Arm<'_>, values: &mut Values, way: &mut Way, start: u32) -> Found
+    requires arm { IsArm arm.now }
     requires ready { WayIsReady start values.old way.old }
-    requires order { start ≤ end }
-    requires inside { end < length object.now.code }
-    requires around { depth ≤ 64 }
-    ensures { IsWalk object.now depth end start values.old way.old result values.new way.new }
+    requires order { start ≤ arm.now.end }
+    ensures { IsWalk arm.now.object.now arm.now.depth arm.now.end start values.old way.old result values.new way.new }
 {
     let mut place = start;
-    while place < end {
-        match next_place(alloc, object, values, way, depth, place, end) {
+    while place < arm.end {
+        match next_place(alloc, arm, values, way, place) {
             Found::Reaches(next) => place = next,
             Found::Stops { place, reason } => return Found::Stops { place, reason },
             Found::Memory => return Found::Memory,
@@ -78,28 +66,14 @@ pub fn walk(
 // this is inlined into the loop.
 #[cycle(walks)]
 #[inline(always)]
-fn next_place(
-    alloc: Global,
-    object: &Object,
-    values: &mut Values,
-    way: &mut Way,
-    depth: u32,
-    place: u32,
-    end: u32,
-) -> Found
-    requires range { IsInRange object.now }
+fn next_place(alloc: Global, arm: &Arm<'_>, values: &mut Values, way: &mut Way, place: u32) -> Found
+    requires arm { IsArm arm.now }
     requires ready { WayIsReady place values.old way.old }
-    requires order { place < end }
-    requires inside { end < length object.now.code }
-    requires around { depth ≤ 64 }
-    ensures { IsNext object.now depth end place values.old way.old result values.new way.new }
+    requires order { place < arm.now.end }
+    ensures { IsNext arm.now.object.now arm.now.depth arm.now.end place values.old way.old result values.new way.new }
 {
-    match single_at(
-        object,
-        values,
-        &mut way.state,
-        object.code()[place as usize],
-    ) {
+    let instr = arm.object.code()[place as usize];
+    match single_at(arm.object, values, &mut way.state, instr) {
         Single::Refuses(reason) => Found::Stops { place, reason },
         Single::Memory => Found::Memory,
         Single::Quiet(cycles) => {
@@ -110,9 +84,7 @@ fn next_place(
             Err(_) => Found::Memory,
             Ok(()) => Found::Reaches(place + 1),
         },
-        Single::Branches(offset) => {
-            beyond_region(alloc, object, values, way, depth, place, end, offset)
-        }
+        Single::Branches(offset) => beyond_region(alloc, arm, values, way, place, offset),
     }
 }
 
@@ -122,24 +94,20 @@ fn next_place(
 #[inline(never)]
 fn beyond_region(
     alloc: Global,
-    object: &Object,
+    arm: &Arm<'_>,
     values: &mut Values,
     way: &mut Way,
-    depth: u32,
     place: u32,
-    end: u32,
     offset: i32,
 ) -> Found
-    requires range { IsInRange object.now }
+    requires arm { IsArm arm.now }
     requires ready { WayIsReady place values.old way.old }
-    requires order { place < end }
-    requires inside { end < length object.now.code }
-    requires around { depth ≤ 64 }
+    requires order { place < arm.now.end }
     requires offset { IsOffset offset }
-    requires branches { BranchesAt object.now place values.old way.old.state offset }
-    ensures { IsNext object.now depth end place values.old way.old result values.new way.new }
+    requires branches { BranchesAt arm.now.object.now place values.old way.old.state offset }
+    ensures { IsNext arm.now.object.now arm.now.depth arm.now.end place values.old way.old result values.new way.new }
 {
-    match region_of(alloc, object, values, &way.state, depth, place, end, offset) {
+    match region_of(alloc, arm, place, offset, values, &way.state) {
         Region::Blocked { place, reason } => Found::Stops { place, reason },
         Region::Memory => Found::Memory,
         Region::Crosses { join, way: crossed } => go_on(way, crossed, join),
@@ -160,49 +128,47 @@ fn go_on(way: &mut Way, crossed: Way, join: u32) -> Found
     }
 }
 
-/// Crosses the region of a branch at `place` with `offset`, inside `depth` regions; its join is at `end` at the latest.
-/// Both arms are walked from one state, the first arm first, and must show the same.
+/// Crosses the region of a branch at `place` with `offset`; its join is at the end of `arm` at the latest. Both arms are
+/// walked from one state, the first arm first, and must show the same.
 // Each arm of a match returns, since a way is large and would be copied once more if it were the value of the match.
 #[cycle(walks)]
 pub fn region_of(
     alloc: Global,
-    object: &Object,
+    arm: &Arm<'_>,
+    place: u32,
+    offset: i32,
     values: &mut Values,
     state: &RegionState,
-    depth: u32,
-    place: u32,
-    end: u32,
-    offset: i32,
 ) -> Region
-    requires range { IsInRange object.now }
-    requires table { IsTable values.old }
-    requires few { length values.old ≤ 40 + 4 * place }
-    requires fits { StateFits (length values.old) state.now }
-    requires order { place < length object.now.code }
-    requires inside { end < length object.now.code }
-    requires around { depth ≤ 64 }
+    requires arm { IsArm arm.now }
     requires offset { IsOffset offset }
-    ensures { IsRegionWalk object.now depth end place offset values.old state.now result values.new }
+    requires ready { StateIsReady place values.old state.now }
+    requires order { place < length arm.now.object.now.code }
+    ensures { IsRegionWalk arm.now.object.now arm.now.depth arm.now.end place offset values.old state.now result
+        values.new }
 {
+    let Arm { object, depth, end } = *arm;
     match shape_at(object, depth, place, end, offset) {
         RegionShape::BadShape { place, reason } => return Region::Blocked { place, reason },
         RegionShape::Arms { second, join } => {
-            let mut untaken = way_from(alloc, 1, state);
-            match walk(
-                alloc,
+            let first_arm = Arm {
                 object,
-                values,
-                &mut untaken,
-                depth + 1,
-                place + 1,
-                second - 1,
-            ) {
+                depth: depth + 1,
+                end: second - 1,
+            };
+            let second_arm = Arm {
+                object,
+                depth: depth + 1,
+                end: join,
+            };
+            let mut untaken = way_from(alloc, 1, state);
+            match walk(alloc, &first_arm, values, &mut untaken, place + 1) {
                 Found::Stops { place, reason } => return Region::Blocked { place, reason },
                 Found::Memory => return Region::Memory,
                 Found::Reaches(_) => {
                     let jump = u32::from(object.profile().taken);
                     let mut taken = way_from(alloc, jump, state);
-                    match walk(alloc, object, values, &mut taken, depth + 1, second, join) {
+                    match walk(alloc, &second_arm, values, &mut taken, second) {
                         Found::Stops { place, reason } => return Region::Blocked { place, reason },
                         Found::Memory => return Region::Memory,
                         Found::Reaches(_) => return compared(place, join, jump, untaken, &taken),

@@ -1,5 +1,8 @@
-use Rattle.std.proofs.Common.{◌≡◌, ℕ, ◌+◌, ◌-◌, ◌∙◌, ℤ, ap, subst, sym, arith}
+use Rattle.std.proofs.Common.{◌≡◌, ℕ, ◌+◌, ◌-◌, ◌∙◌, ℤ, Some, length, ap, subst, sym, arith}
+use Rattle.lt_isa.specs.declared.instructions.Instr.TheVariants.{Br}
+use Rattle.lt_isa.specs.Prelude.{InstrFits}
 use Rattle.lt_isa.proofs.Offsets.{handed_on}
+use Rattle.lt_isa.proofs.Steps.{instruction-fits}
 use Rattle.trace_patterns.specs.Prelude.{Arms, shape, SymState, common, CarriesTo, CarriesOver}
 use Rattle.trace_patterns.proofs.Shapes.{IsRegion, shape-arms}
 use Rattle.region_walk.specs.Prelude.{sym_of, StateIsReady, IsLedOver}
@@ -14,7 +17,7 @@ use Rattle.region_walk.proofs.carries.+carries.Goals as goal
 pub carry_to-loop-place-preserved : goal.carry_to-loop-place-preserved
 carry_to-loop-place-preserved t c =
     let l = c.loop-place in
-    leads-then c.args.object.now c.args.depth c.args.end c.args.start l.place c.in-Reaches.next c.args.values.now
+    leads-then c.args.arm.now.object.now c.args.arm.now.depth c.args.arm.now.end c.args.start l.place c.in-Reaches.next c.args.values.now
     l.values c.carry_on.new.values c.args.state.now l.state c.carry_on.new.state l.invariant c.in-Reaches.ensures.0
 
 pub carry_to-returns-in-Unshaped : goal.carry_to-returns-in-Unshaped
@@ -27,39 +30,51 @@ carry_to-returns-in-Unshaped t c =
 
 pub carry_on-returns-in-Ok : goal.carry_on-returns-in-Ok
 carry_on-returns-in-Ok t c =
-    let o = c.args.object.now in (
-      along-leads o c.args.depth c.args.end c.args.place c.args.values.now c.hold_behind.new.values c.args.state.now
+    let o = c.args.arm.now.object.now in (
+      along-leads o c.args.arm.now.depth c.args.arm.now.end c.args.place c.args.values.now c.hold_behind.new.values c.args.state.now
           c.hold_behind.new.state _ c.requires.ready c.requires.order
           (read-at o c.code.result.now c.args.place c.code.ensures.value (omega arith)) c.in-Goes.ensures
           c.in-Ok.ensures,
       omega arith,
     )
 
-pub carry_branch-returns : goal.carry_branch-returns
-carry_branch-returns t c =
-    let o = c.args.object.now in
+pub carry_on-returns-in-Branches : goal.carry_on-returns-in-Branches
+carry_on-returns-in-Branches t c =
+    let o = c.args.arm.now.object.now in
+    let d = c.args.arm.now.depth in
+    let end = c.args.arm.now.end in
     let old = c.args.values.now in
     let s = c.args.state.now in
-    branch-leads o c.args.depth c.args.end c.args.place c.args.offset old c.carry_over.new.values s
-    c.carry_over.new.state c.carry_over.result c.requires.order c.requires.branch
-    (subst (λ (z : ℤ). IsLedOver o c.args.depth c.args.end c.args.place z old s c.carry_over.result
-    c.carry_over.new.values c.carry_over.new.state) (handed_on c.args.offset c.requires.offset) c.carry_over.ensures)
+    let offset = c.in-Branches.offset in
+    let here = c.in-Branches.ensures in
+    let at = read-at o c.code.result.now c.args.place c.code.ensures.value (omega arith) ∙ ap Some here.3 in
+    let i = Br here.0 here.1 here.2 offset in
+    let fits : InstrFits (length o.banks) i = instruction-fits o c.requires.arm.range c.args.place i at in
+    branch-leads o d end c.args.place offset old c.carry_over.new.values s c.carry_over.new.state
+    c.carry_over.result c.requires.order (record {
+      cmp = here.0;
+      ra = here.1;
+      rb = here.2;
+      at = at;
+    })
+    (subst (λ (z : ℤ). IsLedOver o d end c.args.place z old s c.carry_over.result c.carry_over.new.values
+    c.carry_over.new.state) (handed_on offset fits.2) c.carry_over.ensures)
 
 -- the arms that were found are the arms of the branch
 arms : (t : ℕ) (c : carry_over-In-Arms t)
-    → shape c.args.object.now c.args.depth c.args.end c.args.place c.args.offset ≡ Arms c.in-Arms.second c.in-Arms.join
+    → shape c.args.arm.now.object.now c.args.arm.now.depth c.args.arm.now.end c.args.place c.args.offset ≡ Arms c.in-Arms.second c.in-Arms.join
 arms t c =
-    ap (shape c.args.object.now c.args.depth c.args.end c.args.place)
+    ap (shape c.args.arm.now.object.now c.args.arm.now.depth c.args.arm.now.end c.args.place)
     (sym (handed_on c.args.offset c.requires.offset))
     ∙ sym c.in-Arms.ensures
 
 region : (t : ℕ) (c : carry_over-In-Arms t)
-    → IsRegion c.args.object.now c.args.depth c.args.end c.args.place c.args.offset c.in-Arms.second c.in-Arms.join
+    → IsRegion c.args.arm.now.object.now c.args.arm.now.depth c.args.arm.now.end c.args.place c.args.offset c.in-Arms.second c.in-Arms.join
 region t c = shape-arms _ _ _ _ _ _ _ (arms t c)
 
-pub carry_over-overflow_sub-second : goal.carry_over-overflow_sub-second
-carry_over-overflow_sub-second t c =
-    let around = region t (goal.at.carry_over-overflow_sub-second t c).In-Arms in
+pub carry_over-overflow_sub-first_arm : goal.carry_over-overflow_sub-first_arm
+carry_over-overflow_sub-first_arm t c =
+    let around = region t (goal.at.carry_over-overflow_sub-first_arm t c).In-Arms in
     omega (arith, around.first)
 
 pub carry_over-carry_to-requires : goal.carry_over-carry_to-requires
@@ -67,16 +82,17 @@ carry_over-carry_to-requires t c =
     let around = region t (goal.at.carry_over-carry_to-requires t c).In-Arms in (
       omega (arith, around.first, around.second, around.ends),
       (
-        c.requires.range,
+        record {
+          range = c.requires.arm.range;
+          inside = omega (arith, around.first, around.second, around.in_code);
+          around = omega (arith, around.around);
+        },
         (
           c.requires.bare,
           (
             ready-more c.args.place (c.args.place + 1) c.args.values.now c.args.state.now
                 (omega arith) c.requires.ready,
-            (
-              omega (arith, around.first),
-              (omega (arith, around.first, around.second, around.in_code), omega (arith, around.around)),
-            ),
+            omega (arith, around.first),
           ),
         ),
       ),
@@ -90,7 +106,11 @@ carry_over-carry_to-requires-in-Reaches t c =
     let walked = c.in-Reaches.ensures in (
       omega (arith, around.first, around.second, around.ends),
       (
-        c.requires.range,
+        record {
+          range = c.requires.arm.range;
+          inside = omega (arith, around.in_code);
+          around = omega (arith, around.around);
+        },
         (
           c.requires.bare,
           (
@@ -98,7 +118,7 @@ carry_over-carry_to-requires-in-Reaches t c =
                 c.requires.ready
                 (ready-more c.in-Reaches.field-0 c.in-Arms.second mid c.carry_to.new.state
                 (omega (arith, walked.1, around.first)) walked.0.ready),
-            (omega (arith, around.second), (omega (arith, around.in_code), omega (arith, around.around))),
+            omega (arith, around.second),
           ),
         ),
       ),
@@ -107,7 +127,7 @@ carry_over-carry_to-requires-in-Reaches t c =
 pub carry_over-returns-in-Unshaped-carry_to : goal.carry_over-returns-in-Unshaped-carry_to
 carry_over-returns-in-Unshaped-carry_to t c =
     let past = goal.at.carry_over-returns-in-Unshaped-carry_to t c in
-    let o = c.args.object.now in
+    let o = c.args.arm.now.object.now in
     let old = c.args.values.now in
     let mid = c.carry_to.new.values in
     let s = c.args.state.now in
@@ -115,10 +135,10 @@ carry_over-returns-in-Unshaped-carry_to t c =
     let same = sym_of-keeps old mid c.in-Reaches.ensures.0.keeps s c.requires.ready.state in
     let none = c.in-Unshaped-carry_to.ensures in
     record {
-      nothing = second-unshaped o c.args.depth c.args.end c.args.place c.args.offset (sym_of old s) c.in-Arms.second
+      nothing = second-unshaped o c.args.arm.now.depth c.args.arm.now.end c.args.place c.args.offset (sym_of old s) c.in-Arms.second
           join c.requires.bare (arms t past.In-Arms)
           (λ u h. none.nothing u
-          (subst (λ (x : SymState). CarriesTo o (c.args.depth + 1) join c.in-Arms.second x u) (sym same) h));
+          (subst (λ (x : SymState). CarriesTo o (c.args.arm.now.depth + 1) join c.in-Arms.second x u) (sym same) h));
       keeps = keeps-then old mid c.carry_to-in-Reaches.new.values c.in-Reaches.ensures.0.keeps none.keeps;
     }
 
@@ -126,8 +146,8 @@ pub carry_over-returns-in-Reaches-carry_to : goal.carry_over-returns-in-Reaches-
 carry_over-returns-in-Reaches-carry_to t c =
     let past = goal.at.carry_over-returns-in-Reaches-carry_to t c in
     let around = region t past.In-Arms in
-    let o = c.args.object.now in
-    let d = c.args.depth in
+    let o = c.args.arm.now.object.now in
+    let d = c.args.arm.now.depth in
     let p = c.args.place in
     let second = c.in-Arms.second in
     let join = c.in-Arms.join in
@@ -156,9 +176,9 @@ carry_over-returns-in-Reaches-carry_to t c =
       inside = around.in_code;
       ready = alike-ready join new one two both first c.keep_common.ensures;
       keeps = keeps-then old mid new h.0.keeps g.0.keeps;
-      over = subst (λ (x : SymState). CarriesOver o d c.args.end p c.args.offset (sym_of old s) join x) (sym made)
-          (subst (λ (x : SymState). CarriesOver o d c.args.end p c.args.offset (sym_of old s) join
+      over = subst (λ (x : SymState). CarriesOver o d c.args.arm.now.end p c.args.offset (sym_of old s) join x) (sym made)
+          (subst (λ (x : SymState). CarriesOver o d c.args.arm.now.end p c.args.offset (sym_of old s) join
           (common x (sym_of new two))) (sym kept)
-          (both-over o d c.args.end p c.args.offset (sym_of old s) second join c.requires.bare (arms t past.In-Arms)
+          (both-over o d c.args.arm.now.end p c.args.offset (sym_of old s) second join c.requires.bare (arms t past.In-Arms)
           (sym_of mid one) (sym_of new two) left right));
     }
