@@ -27,6 +27,14 @@ item-there {X = X} xs ys k d x same is within =
     (λ less. slice_get-get_or xs k d less ∙ ap Some (sym is)) within
 
 module _ {B : Type 0} (plan : List Share) (cores : List (Core B)) where
+  -- the core that was put
+  put-is : (k j : ℕ) (was now c : Core B) → slice_get cores k ≡ Some was → slice_get (slice_set cores k now) j ≡ Some c
+      → j ≡ k → now ≡ c
+  put-is k j was now c there here is =
+      same_Some now c
+      (sym (get-set_same cores k now (slice_get_within cores k was there))
+      ∙ ap (slice_get (slice_set cores k now)) (sym is) ∙ here)
+
   -- a core was run
   pub stand-put : (k : ℕ) (was now : Core B) → slice_get cores k ≡ Some was → AllStand plan cores
       → now.machine.object ≡ was.machine.object → IsInRange now.machine.object
@@ -36,11 +44,7 @@ module _ {B : Type 0} (plan : List Share) (cores : List (Core B)) where
     each = λ j c here.
         ⊎_elim
         (λ (is : j ≡ k).
-        let put : now ≡ c =
-        same_Some now c
-        (sym (get-set_same cores k now (slice_get_within cores k was there))
-        ∙ ap (slice_get (slice_set cores k now)) (sym is) ∙ here) in
-        subst (λ (x : Core B). Stands x (share_at plan j)) put
+        subst (λ (x : Core B). Stands x (share_at plan j)) (put-is k j was now c there here is)
         (record {
           in_range = range;
           shaped = shaped;
@@ -55,11 +59,7 @@ module _ {B : Type 0} (plan : List Share) (cores : List (Core B)) where
   live-put k was now there live own j c here =
       ⊎_elim
       (λ (is : j ≡ k).
-      let put : now ≡ c =
-      same_Some now c
-      (sym (get-set_same cores k now (slice_get_within cores k was there))
-      ∙ ap (slice_get (slice_set cores k now)) (sym is) ∙ here) in
-      subst (λ (x : Core B). x.machine.live ≡ is_none x.halted) put own)
+      subst (λ (x : Core B). x.machine.live ≡ is_none x.halted) (put-is k j was now c there here is) own)
       (λ other. live j c (sym (get-set_other cores k j now other) ∙ here))
       (cases_eq j k)
 

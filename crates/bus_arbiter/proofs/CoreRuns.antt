@@ -1,5 +1,5 @@
 -- One core's runs, in sequence.
-use Rattle.std.proofs.Common.{◌≡◌, ℕ, ◌≤◌, max, List, [], ◌++◌, Option, Some, None, refl, sym, ap, ◌∙◌, subst, ⊎_elim, arith}
+use Rattle.std.proofs.Common.{◌≡◌, ℕ, ◌≤◌, max, List, [], ◌++◌, Option, Some, None, refl, sym, ap, ◌∙◌, subst, ⊎_elim, ◌×◌, arith}
 use Rattle.std.proofs.lemmas.List.{append-nil}
 use Rattle.std.proofs.lemmas.List.Elements.{Contains-append_right}
 use Rattle.std.proofs.lemmas.Bool.{cases_lt}
@@ -37,21 +37,26 @@ stays-at {B = B} c = by c.halted refl
 -- a run that was spent at cycle m shows nothing more up to an earlier cycle, and changes nothing
 module _ (o : Parts) (range : IsInRange o) (s : State) (shaped : IsShaped o s) (m n : ℕ) (le : n ≤ m)
     (spent : EndsAs (trace_from o s m) end.Spent) where
-  pub rests-trace : trace_from o (final_from o s m) n ≡ []
-  rests-trace =
+  rests : (trace_from o (final_from o s m) n ≡ []) × (final_from o (final_from o s m) n ≡ final_from o s m)
+  rests =
+      let t = final_from o s m in
+      let fits = final_shaped o range s shaped m in
       ⊎_elim
-      (λ past. trace_from-past o (final_from o s m) n (omega (arith, past, le)))
-      (λ (faults : step o (final_from o s m) ≡ Faults).
-      trace_from-faults o range (final_from o s m) n (final_shaped o range s shaped m) faults)
+      (λ past. (
+        trace_from-past o t n (omega (arith, past, le)),
+        final_from-past o t n (omega (arith, past, le)),
+      ))
+      (λ (faults : step o t ≡ Faults). (
+        trace_from-faults o range t n fits faults,
+        final_from-faults o range t n fits faults,
+      ))
       (spent-from_no_halt o range s shaped m spent).ended
 
+  pub rests-trace : trace_from o (final_from o s m) n ≡ []
+  rests-trace = rests.0
+
   pub rests-state : final_from o (final_from o s m) n ≡ final_from o s m
-  rests-state =
-      ⊎_elim
-      (λ past. final_from-past o (final_from o s m) n (omega (arith, past, le)))
-      (λ (faults : step o (final_from o s m) ≡ Faults).
-      final_from-faults o range (final_from o s m) n (final_shaped o range s shaped m) faults)
-      (spent-from_no_halt o range s shaped m spent).ended
+  rests-state = rests.1
 
 -- A run up to cycle m and then one up to cycle n show what a run up to the later of the two shows, and leave what it
 -- leaves.

@@ -18,23 +18,21 @@ use Rattle.bus_arbiter.proofs.TransferLists.{in-none, in-one, is-transfer, rise-
 
 -- ---- one step
 
-bank-read : (b a : ℕ) (words : List ℤ) → bank_used (read_event b a words) ≡ b
-bank-read b a words = by (is_ram b) (is_eram b) refl refl
+bank-shown : (b : ℕ) (plain encrypted : Observed) → bank_used plain ≡ 0 → bank_used encrypted ≡ 1
+    → bank_used (cond (is_ram b) plain (cond (is_eram b) encrypted (Oram b))) ≡ b
+bank-shown b plain encrypted zero_is one_is = by (is_ram b) (is_eram b) refl refl
   where
     by : (ram eram : Bool) → is_ram b ≡ ram → is_eram b ≡ eram
-        → bank_used (cond ram (RamRead a words) (cond eram (EncRead a) (Oram b))) ≡ b
-    by true eram r e = sym (eqb-true b 0 r)
-    by false true r e = sym (eqb-true b 1 e)
+        → bank_used (cond ram plain (cond eram encrypted (Oram b))) ≡ b
+    by true eram r e = zero_is ∙ sym (eqb-true b 0 r)
+    by false true r e = one_is ∙ sym (eqb-true b 1 e)
     by false false r e = refl
 
+bank-read : (b a : ℕ) (words : List ℤ) → bank_used (read_event b a words) ≡ b
+bank-read b a words = bank-shown b (RamRead a words) (EncRead a) refl refl
+
 bank-write : (b a : ℕ) (words : List ℤ) → bank_used (write_event b a words) ≡ b
-bank-write b a words = by (is_ram b) (is_eram b) refl refl
-  where
-    by : (ram eram : Bool) → is_ram b ≡ ram → is_eram b ≡ eram
-        → bank_used (cond ram (RamWrite a words) (cond eram (EncWrite a) (Oram b))) ≡ b
-    by true eram r e = sym (eqb-true b 0 r)
-    by false true r e = sym (eqb-true b 1 e)
-    by false false r e = refl
+bank-write b a words = bank-shown b (RamWrite a words) (EncWrite a) refl refl
 
 -- an event of a step that starts at a cycle
 record Transferred (o : Parts) (start : ℕ) (e : Observed) (t : State) : Type 0 where

@@ -1,5 +1,6 @@
 -- What a machine's watcher hears in one call and in a whole run, as transfers of its core.
-use Rattle.std.proofs.Common.{◌≡◌, ℕ, List, [], ◌∷◌, ◌++◌, refl, sym, ap, ◌∙◌, subst}
+use Rattle.std.proofs.Common.{◌≡◌, ℕ, Bool, true, false, List, [], ◌∷◌, ◌++◌, refl, sym, ap, ◌∙◌, subst}
+use Rattle.std.proofs.lemmas.Bool.{false≢true}
 use Rattle.lt_isa.specs.Prelude.{Observed, RamRead, RamWrite, EncRead, EncWrite, Oram, Halted, seen_at}
 use Rattle.processor.specs.Prelude.{events_in-append, WatcherTold, AnEvent, APath, events_in}
 use Rattle.bus_arbiter.specs.Prelude.{moves_of, torn_at, torn_by, FailedAt, Transfer, moved_by, transfer_of, transfers_of}
@@ -7,15 +8,21 @@ use Rattle.bus_arbiter.proofs.TransferLists.{transfers_of-append}
 
 -- ---- one call
 
+-- an event that is a transfer
+abbrev pub is_transfer : Observed → Bool
+is_transfer Halted = false
+is_transfer other = true
+
+one-transfer : (core at : ℕ) (seen : Observed) → is_transfer seen ≡ true
+    → transfer_of core at seen ≡ moved_by core at seen ∷ []
+one-transfer core at Halted is = absurd (false≢true is)
+one-transfer core at other is = refl
+
 -- a transfer was heard
-pub event-heard : (heard : List Transfer → Type 0) (core at : ℕ) (event seen : Observed) → seen ≡ event
-    → transfer_of core at event ≡ moved_by core at event ∷ [] → heard (moved_by core at seen ∷ [])
-    → heard (moves_of core (AnEvent (seen_at at seen) ∷ []))
-event-heard heard core at event seen is one hears =
-    subst heard
-    (sym (ap (λ e. transfer_of core at e ++ []) is ∙ ap (λ l. l ++ []) one
-    ∙ ap (λ e. moved_by core at e ∷ []) (sym is)))
-    hears
+pub event-heard : (heard : List Transfer → Type 0) (core at : ℕ) (seen : Observed) → is_transfer seen ≡ true
+    → heard (moved_by core at seen ∷ []) → heard (moves_of core (AnEvent (seen_at at seen) ∷ []))
+event-heard heard core at seen is hears =
+    subst heard (sym (ap (λ l. l ++ []) (one-transfer core at seen is))) hears
 
 -- a halt was heard, which isn't a transfer
 pub halt-heard : (heard : List Transfer → Type 0) (core at : ℕ) (seen : Observed) → seen ≡ Halted → heard []

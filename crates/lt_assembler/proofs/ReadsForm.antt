@@ -47,8 +47,7 @@ form_then (Ok x) f F Q P h k = k x h.known.0 h.known.1
 form_then (Err WrongForm) f F Q P h k = record { known = tt }
 form_then (Err Number) f F Q P h k = record { known = h.known }
 form_then (Err RepeatedName) f F Q P h k = absurd h.known
-form_then (Err Limit) f F Q P h k = absurd h.known
-form_then (Err Memory) f F Q P h k = absurd h.known
+form_then (Err _) f F Q P h k = absurd h.known
 
 -- a word that may name an item
 pub named_then : {X Y : Type 0} (o : Option X) (f : X → Result Y Fault) (F : Type 0) (Q : X → Type 0)
@@ -133,8 +132,7 @@ line_then (Ok x) f F S Q h k = k x h.known.0 h.known.1
 line_then (Err WrongForm) f F S Q h k = record { known = tt }
 line_then (Err Number) f F S Q h k = record { known = h.known }
 line_then (Err RepeatedName) f F S Q h k = absurd h.known
-line_then (Err Limit) f F S Q h k = absurd h.known
-line_then (Err Memory) f F S Q h k = absurd h.known
+line_then (Err _) f F S Q h k = absurd h.known
 
 -- a test of a name, and of a limit
 pub line_name : (b : Bool) (f : Unit {0} → Result Draft Fault) (F S : Type 0)

@@ -60,24 +60,11 @@ kind_of_opcode (Br Ge) = refl
 
 operation_code-lt : (op : Op) → operation_code op < 256
 operation_code-lt Add = omega arith
-operation_code-lt Sub = omega arith
-operation_code-lt Mul = omega arith
-operation_code-lt Div = omega arith
-operation_code-lt Rem = omega arith
-operation_code-lt Remu = omega arith
-operation_code-lt And = omega arith
-operation_code-lt Or = omega arith
-operation_code-lt Xor = omega arith
-operation_code-lt Shl = omega arith
-operation_code-lt Shr = omega arith
+operation_code-lt _ = omega arith
 
 comparison_code-lt : (cmp : Cmp) → comparison_code cmp < 256
 comparison_code-lt Eq = omega arith
-comparison_code-lt Ne = omega arith
-comparison_code-lt Lt = omega arith
-comparison_code-lt Le = omega arith
-comparison_code-lt Gt = omega arith
-comparison_code-lt Ge = omega arith
+comparison_code-lt _ = omega arith
 
 -- an opcode is a byte
 pub opcode_of-lt : (kind : Kind) → opcode_of kind < 256

@@ -8,14 +8,12 @@ use lt_checker::Accepted;
 use lt_isa::{Object, Symbol};
 use std::alloc::Global;
 
+/// Words of a bank, or that memory ran out.
+pub type Image = Result<Vec<i64>, Memory>;
+
 /// The words of a bank at the start of a run on some inputs, block after block: the inputs' words at their variables'
 /// places, and 0 elsewhere.
-pub fn start_image(
-    alloc: Global,
-    a: &Accepted,
-    inputs: &Inputs,
-    bank: u8,
-) -> Result<Vec<i64>, Memory>
+pub fn start_image(alloc: Global, a: &Accepted, inputs: &Inputs, bank: u8) -> Image
     requires fits { FitsObject a.now inputs.now }
     requires exists { bank < length a.now.banks }
     ensures words { IfOk result (λ image. image.items ≡ words_of_blocks (start_bank a.now inputs.now bank)) }
@@ -30,12 +28,7 @@ pub fn start_image(
 }
 
 /// The first words of a bank at the start of a run, in a vector with room for all of them. The others are 0.
-pub(crate) fn start_front(
-    alloc: Global,
-    object: &Object,
-    inputs: &Inputs,
-    bank: u8,
-) -> Result<Vec<i64>, Memory>
+pub(crate) fn start_front(alloc: Global, object: &Object, inputs: &Inputs, bank: u8) -> Image
     requires fits { FitsObject object.now inputs.now }
     requires exists { bank < length object.now.banks }
     ensures words { IfOk result (λ front. (i : ℕ)

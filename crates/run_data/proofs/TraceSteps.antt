@@ -10,20 +10,12 @@ use Rattle.run_data.proofs.TraceParts.{no_end}
 GoesOn-from : (size least : ℕ) (e : Observed) (more : List Stamped) (halted : Bool)
     → MayFollow (is_halt e) size least more halted → GoesOn e more halted (AreEvents size least more halted)
 GoesOn-from size least Halted more halted follows = follows
-GoesOn-from size least (RamRead block words) more halted follows = follows
-GoesOn-from size least (RamWrite block words) more halted follows = follows
-GoesOn-from size least (EncRead block) more halted follows = follows
-GoesOn-from size least (EncWrite block) more halted follows = follows
-GoesOn-from size least (Oram bank) more halted follows = follows
+GoesOn-from size least _ more halted follows = follows
 
 MayFollow-from : (size least : ℕ) (e : Observed) (more : List Stamped) (halted : Bool)
     → GoesOn e more halted (AreEvents size least more halted) → MayFollow (is_halt e) size least more halted
 MayFollow-from size least Halted more halted goes = goes
-MayFollow-from size least (RamRead block words) more halted goes = goes
-MayFollow-from size least (RamWrite block words) more halted goes = goes
-MayFollow-from size least (EncRead block) more halted goes = goes
-MayFollow-from size least (EncWrite block) more halted goes = goes
-MayFollow-from size least (Oram bank) more halted goes = goes
+MayFollow-from size least _ more halted goes = goes
 
 -- an event is the first of a trace whose first line is its line
 first-event : (size least : ℕ) (all : List Stamped) (halted : Bool) (s : Stamped) (rest : List (List ℕ))

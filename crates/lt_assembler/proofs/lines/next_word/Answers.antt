@@ -1,7 +1,7 @@
 use Rattle.std.proofs.Common.{◌≡◌, ℕ, ◌<◌, List, drop, sym, ap, ◌∙◌, arith}
 use Rattle.std.proofs.lemmas.List.Sums.{prefix_len-le-length}
 use Rattle.lt_assembler.specs.Prelude.{is_blank, is_part}
-use Rattle.lt_assembler.proofs.FirstLine.{no_next, next_word}
+use Rattle.lt_assembler.proofs.FirstLine.{IsNextWord, no_next, next_word}
 use Rattle.lt_assembler.proofs.lines.next_word.Goals as goal
 
 -- the text after n bytes
@@ -23,29 +23,22 @@ returns-then-len-eq0-clause-words c =
 pub split_at-requires-2 : goal.split_at-requires-2
 split_at-requires-2 c = rw c.part_len-len.ensures (prefix_len-le-length is_part c.split_at.result.1.now)
 
-pub returns-clause-words : goal.returns-clause-words
-returns-clause-words c =
+-- the next word
+next : (c : goal.After-split_at-2) → IsNextWord c.args.text.now c.split_at.result.1.now
+next c =
     let some = some_bytes c.part_len-len.result c.if-len-eq0.false in
-    let next =
     next_word c.args.text.now c.split_at.result.1.now
     (behind c.args.text.now c.split_at.result.1.now _ _ c.blank_len.ensures c.split_at.ensures.back)
-    (rw (← c.part_len-len.ensures) some) in
-    rw (c.split_at-2.ensures.front, c.split_at-2.ensures.back, c.part_len-len.ensures) next.words
+    (rw (← c.part_len-len.ensures) some)
+
+pub returns-clause-words : goal.returns-clause-words
+returns-clause-words c =
+    rw (c.split_at-2.ensures.front, c.split_at-2.ensures.back, c.part_len-len.ensures) (next c).words
 
 pub returns-clause-ascii : goal.returns-clause-ascii
 returns-clause-ascii c =
-    let some = some_bytes c.part_len-len.result c.if-len-eq0.false in
-    let next =
-    next_word c.args.text.now c.split_at.result.1.now
-    (behind c.args.text.now c.split_at.result.1.now _ _ c.blank_len.ensures c.split_at.ensures.back)
-    (rw (← c.part_len-len.ensures) some) in
-    rw (c.split_at-2.ensures.back, c.part_len-len.ensures) next.line.ascii
+    rw (c.split_at-2.ensures.back, c.part_len-len.ensures) (next c).line.ascii
 
 pub returns-clause-behind : goal.returns-clause-behind
 returns-clause-behind c =
-    let some = some_bytes c.part_len-len.result c.if-len-eq0.false in
-    let next =
-    next_word c.args.text.now c.split_at.result.1.now
-    (behind c.args.text.now c.split_at.result.1.now _ _ c.blank_len.ensures c.split_at.ensures.back)
-    (rw (← c.part_len-len.ensures) some) in
-    rw (c.split_at-2.ensures.back, c.part_len-len.ensures) next.line.behind
+    rw (c.split_at-2.ensures.back, c.part_len-len.ensures) (next c).line.behind

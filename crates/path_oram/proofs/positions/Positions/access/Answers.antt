@@ -1,5 +1,5 @@
-use Rattle.std.proofs.Common.{◌≡◌, ◌<◌, length, get_or, sym, subst, arith}
-use Rattle.path_oram.proofs.Accessed.{accessed}
+use Rattle.std.proofs.Common.{◌≡◌, ◌<◌, ◌++◌, take, drop, length, get_or, sym, subst, arith}
+use Rattle.path_oram.proofs.Accessed.{Accessed, accessed}
 use Rattle.path_oram.proofs.Found.{places_count}
 use Rattle.path_oram.proofs.Written.{whole_length, whole_leaf}
 use Rattle.path_oram.proofs.positions.Positions.access.Goals as goal
@@ -20,14 +20,23 @@ access_path-requires-clause-room c =
       c.self.invariant.reserved,
     ))
 
-pub invariant_of-self : goal.invariant_of-self
-invariant_of-self c =
-    let left = accessed c.self.inside.count c.self.inside.height c.self.inside.stash.items c.self.inside.tree.items
+-- what the access leaves
+accessed_so : (c : goal.After-access_path)
+    → Accessed c.self.inside.count c.self.inside.height c.args.self.now c.args.block c.args.old c.args.new
+    c.access_path.new.stash.items
+    (take c.self.inside.tree.len
+    (c.access_path.new.tree ++ drop (length c.access_path.new.tree) c.self.inside.tree.items))
+accessed_so c =
+    accessed c.self.inside.count c.self.inside.height c.self.inside.stash.items c.self.inside.tree.items
     c.args.self.now c.args.block c.args.new c.args.old c.self.inside.tree.len
     c.as_mut_slice.result.now c.access_path.new.tree c.access_path.new.stash.items c.self.view_is
     c.self.invariant.whole c.self.invariant.stash c.self.invariant.tree c.requires.exists c.requires.new c.requires.old
     c.self.inside.tree.ok.0 c.as_mut_slice.ensures.value c.access_path.ensures.written_back
-    c.access_path.ensures.leaves in
+    c.access_path.ensures.leaves
+
+pub invariant_of-self : goal.invariant_of-self
+invariant_of-self c =
+    let left = accessed_so c in
     record {
       height = c.self.invariant.height;
       reserved = omega (arith, c.self.invariant.reserved, c.access_path.ensures.capacity);
@@ -38,12 +47,7 @@ invariant_of-self c =
 
 pub returns-clause-moved : goal.returns-clause-moved
 returns-clause-moved c =
-    let left = accessed c.self.inside.count c.self.inside.height c.self.inside.stash.items c.self.inside.tree.items
-    c.args.self.now c.args.block c.args.new c.args.old c.self.inside.tree.len
-    c.as_mut_slice.result.now c.access_path.new.tree c.access_path.new.stash.items c.self.view_is
-    c.self.invariant.whole c.self.invariant.stash c.self.invariant.tree c.requires.exists c.requires.new c.requires.old
-    c.self.inside.tree.ok.0 c.as_mut_slice.ensures.value c.access_path.ensures.written_back
-    c.access_path.ensures.leaves in
+    let left = accessed_so c in
     record { path = left.path; leaves = left.leaves }
 
 pub returns-clause-whole : goal.returns-clause-whole
