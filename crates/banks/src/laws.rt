@@ -7,6 +7,7 @@ ghost use Rattle.banks.specs.ObliviousEvents.{accesses_shown};
 /// Does nothing; its clauses are laws of the accesses of runs. The accesses of runs satisfy the relation that defines
 /// them, and nothing else does. Each access is the one that its event shows. A trace shows as many accesses to an
 /// oblivious bank as are made to it, and only existing blocks of a bank are accessed.
+#[tactic(auto, using(crate::proofs::AccessRuns::are_accesses, crate::proofs::AccessRuns::no_other_accesses, crate::proofs::ShownAccesses::shows_its_access))]
 pub fn access_laws()
     ensures accesses { (o : Parts) → IsInRange o → AreAccesses o (accesses_from o) }
     ensures no_other_accesses { (o : Parts)

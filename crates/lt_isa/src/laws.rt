@@ -16,6 +16,7 @@ ghost use Rattle.lt_isa.specs.declared.profiles.Profile.{Profile};
 /// Does nothing; its clauses are the laws of runs. The traces and the final states of runs satisfy the relations that
 /// define them, and nothing else does. At the start the variables have the words of the inputs, and every other word is
 /// 0. Inputs may agree and still differ, for example those of an object whose only variable is a secret scalar.
+#[tactic(auto, using(crate::proofs::Sentences::are_traces, crate::proofs::Sentences::are_finals, crate::proofs::Sentences::no_other_traces, crate::proofs::Sentences::no_other_finals, crate::proofs::Sentences::secrets_differ, crate::proofs::StartOutputs::starts_with_inputs, crate::proofs::StartOutputs::starts_with_zeros))]
 pub fn run_laws()
     ensures traces { (o : Parts) → IsInRange o → AreTraces o (trace_from o) }
     ensures no_other_traces { (o : Parts)

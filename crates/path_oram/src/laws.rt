@@ -13,6 +13,7 @@ pub fn write_back_laws()
 /// Does nothing; its clauses are laws of runs. An access reads its block's own word if the block wasn't accessed
 /// before, and otherwise the word that the last access to it drew. No word is read twice. If the words are rearranged
 /// from one run to another, the second run shows the same leaves.
+#[tactic(auto, using(crate::proofs::ReadWords::each_reads, crate::proofs::WordsOnce::each_word_once))]
 pub fn word_laws()
     ensures each_reads { EachReads }
     ensures each_word_once { EachWordOnce }

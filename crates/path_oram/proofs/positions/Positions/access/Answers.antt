@@ -21,7 +21,7 @@ access_path-requires-clause-room c =
     ))
 
 -- what the access leaves
-accessed_so : (c : goal.After-access_path)
+accessed_so : (c : goal.After-self-1)
     → Accessed c.self.inside.count c.self.inside.height c.args.self.now c.args.block c.args.old c.args.new
     c.access_path.new.stash.items
     (take c.self.inside.tree.len
