@@ -31,9 +31,13 @@ pub record IsFirstFull (p : Source) (w : ℕ) (bank : ℕ) : Type 0 where
   pub full : most_blocks bank < blocks_needed p w bank
   pub first : BanksFitBelow p w bank
 
--- The public scalars come first, then the secret ones, then the banks from the lowest. Want of memory says nothing.
+-- What lacks room first, where a relation says which bank is the first that does: the public scalars come first, then the
+-- secret ones, then the banks from the lowest. Want of memory says nothing.
+abbrev pub LacksRoom : (ℕ → Type 0) → Source → ℕ → PlaceError → Type 0
+LacksRoom IsFirst p w (TooManyScalars Public) = 2 ^ w < scalars_of Public p
+LacksRoom IsFirst p w (TooManyScalars Secret) = (scalars_of Public p ≤ 2 ^ w) × (2 ^ w < scalars_of Secret p)
+LacksRoom IsFirst p w (BankFull bank) = ScalarsFit p w × IsFirst bank
+LacksRoom IsFirst p w Memory = Unit {0}
+
 abbrev pub Refuses : Source → ℕ → PlaceError → Type 0
-Refuses p w (TooManyScalars Public) = 2 ^ w < scalars_of Public p
-Refuses p w (TooManyScalars Secret) = (scalars_of Public p ≤ 2 ^ w) × (2 ^ w < scalars_of Secret p)
-Refuses p w (BankFull bank) = ScalarsFit p w × IsFirstFull p w bank
-Refuses p w Memory = Unit {0}
+Refuses p w e = LacksRoom (IsFirstFull p w) p w e

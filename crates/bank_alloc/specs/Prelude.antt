@@ -3,7 +3,7 @@ pub use Rattle.bank_alloc.specs.Apart.{LiesWithin}
 unfoldable pub use Rattle.bank_alloc.specs.Apart.{AreApart, IsBankOf, end_of_place, scalar_bank, start_of_place}
 unfoldable pub use Rattle.bank_alloc.specs.Classes.{class_by, class_of, is_labelled, is_scalar}
 pub use Rattle.bank_alloc.specs.Fits.{Fits, ScalarsFit}
-unfoldable pub use Rattle.bank_alloc.specs.Fits.{Refuses, scalars_of}
+unfoldable pub use Rattle.bank_alloc.specs.Fits.{LacksRoom, Refuses, scalars_of}
 pub use Rattle.bank_alloc.specs.Indexes.{secret_index_in_block, secret_index_in_statement}
 unfoldable pub use Rattle.bank_alloc.specs.Indexes.{has_secret_index, secret_index_in, secret_index_in_test}
 unfoldable pub use Rattle.bank_alloc.specs.Keys.{symbol_key}

@@ -26,7 +26,7 @@ use Rattle.block_cache_gen.specs.Prelude.{Pin, pin_at, Home, Setting, home_of, r
 use Rattle.held_registers.specs.Prelude.{secret_zero, public_zero, IsSoundHeld}
 use Rattle.block_cache_gen.specs.declared.indexes.Numbering.{Numbering}
 use Rattle.strength_reduction.specs.Prelude.{Step, Constant, Compute, StepFits, numbered, code_of}
-use Rattle.step_code.proofs.Registers.{numbered-low}
+use Rattle.strength_reduction.proofs.Registers.{numbered-low}
 use Rattle.word_selection.specs.Prelude.{IsOutside, selected_read, selected_write}
 use Rattle.word_selection.proofs.StepRanges.{read-in_range, write-in_range}
 use Rattle.src_tree.proofs.TreeHeights.{height-some}
@@ -266,12 +266,12 @@ module _ (banks : ℕ) where
   steps-fit to [] room fit = none
   steps-fit to (Constant rd value ∷ steps) room fit =
       let first = All-head StepFits (Constant rd value) steps fit in
-      li (numbered to rd) value (code_of to steps) (numbered-low to rd first.0 (omega arith)) first.1
+      li (numbered to rd) value (code_of to steps) (numbered-low to 2 rd first.0 (omega arith)) first.1
       (steps-fit to steps room (All-tail StepFits (Constant rd value) steps fit))
   steps-fit to (Compute op rd left right ∷ steps) room fit =
       let first = All-head StepFits (Compute op rd left right) steps fit in
       alu op (numbered to rd) (numbered to left) (numbered to right) (code_of to steps)
-      (numbered-low to rd first.0 (omega arith)) (numbered-low to left first.1 (omega arith)) (numbered-low to right first.2 (omega arith))
+      (numbered-low to 2 rd first.0 (omega arith)) (numbered-low to 2 left first.1 (omega arith)) (numbered-low to 2 right first.2 (omega arith))
       (steps-fit to steps room (All-tail StepFits (Compute op rd left right) steps fit))
 
   operation-fits : (f : Setting) (op : Op) (to ra rb : ℕ) (b : Tree) (right : List Instr) → to + 2 < 19

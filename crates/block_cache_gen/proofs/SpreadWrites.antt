@@ -13,7 +13,7 @@ use Rattle.held_registers.specs.Prelude.{public_zero}
 use Rattle.word_selection.specs.declared.effects.Effect.{Effect}
 use Rattle.word_selection.specs.declared.effects.Effect.TheVariants.{Stores, Keeps}
 use Rattle.word_selection.specs.Prelude.{SlotStep, Constant, Compute, Combine, Read, Write, IsOutside, StepFits, instruction_of, code_of, mask_register, mask_steps, difference_steps, written_from, choices_steps, first_steps, next_mask_steps, exchange_steps, exchanges_steps, read_steps, write_steps, selected_read, selected_write}
-use Rattle.word_selection.proofs.Registers.{numbered-to}
+use Rattle.strength_reduction.proofs.Registers.{numbered-to}
 use Rattle.word_selection.proofs.ReadLaws.{read-fits}
 use Rattle.word_selection.proofs.WriteLaws.{write-fits}
 use Rattle.strength_reduction.specs.Prelude.{numbered}
@@ -217,19 +217,18 @@ module _ (once : Bool) where
   pub store-writes : (mode : Mode) (slot value : ℕ) → written_words once (store_code once mode slot value) ≡ 1
   store-writes mode slot value = (one-access mode slot value).1
 
-  block-stores : (mode : Mode) (slot value : ℕ)
-      → stored_words once (store_code once mode slot value ++ Stb slot ∷ []) ≡ 1
-  block-stores mode slot value =
-      let none : stored_words once (Stb slot ∷ []) ≡ 0 = refl in
-      stored-append (store_code once mode slot value) (Stb slot ∷ [])
-      ∙ omega (arith, none, store-stores mode slot value)
-
-  block-writes : (mode : Mode) (slot value : ℕ)
-      → written_words once (store_code once mode slot value ++ Stb slot ∷ []) ≡ 1
-  block-writes mode slot value =
-      let none : written_words once (Stb slot ∷ []) ≡ 0 = refl in
-      written-append (store_code once mode slot value) (Stb slot ∷ [])
-      ∙ omega (arith, none, store-writes mode slot value)
+  -- the store of the block accesses no word
+  one-access_of_block : (mode : Mode) (slot value : ℕ)
+      → (stored_words once (store_code once mode slot value ++ Stb slot ∷ []) ≡ 1)
+      × (written_words once (store_code once mode slot value ++ Stb slot ∷ []) ≡ 1)
+  one-access_of_block mode slot value =
+      let no_store : stored_words once (Stb slot ∷ []) ≡ 0 = refl in
+      let no_write : written_words once (Stb slot ∷ []) ≡ 0 = refl in (
+        stored-append (store_code once mode slot value) (Stb slot ∷ [])
+            ∙ omega (arith, no_store, store-stores mode slot value),
+        written-append (store_code once mode slot value) (Stb slot ∷ [])
+            ∙ omega (arith, no_write, store-writes mode slot value),
+      )
 
 pub stored-stores : (f : Setting) (mode : Mode) (h : Home) (fixed : Option ℤ) (value : ℕ)
     → stored_words f.reduces (stored_code f mode h fixed value) ≡ stores_in h fixed
@@ -240,7 +239,7 @@ stored-stores f mode h fixed value = by h.resident fixed
     among (next ∷ rest) = selected-stores f.reduces (effect_of mode) (words_a_block f) value (h.slot ∷ next ∷ rest)
 
     by : (b : Bool) (fixed : Option ℤ) → stored_words f.reduces (stored_by b f mode h fixed value) ≡ stores_by b h fixed
-    by false fixed = block-stores f.reduces mode h.slot value
+    by false fixed = (one-access_of_block f.reduces mode h.slot value).0
     by true (Some z) = store-stores f.reduces mode (slot_of_word f h (h.word + fixed_word h z)) value
     by true None = among (further_slots h)
 
@@ -257,7 +256,7 @@ stored-writes f mode h fixed value apart = by h.resident fixed
         ∙ selected-stores f.reduces (effect_of mode) (words_a_block f) value slots
 
     by : (b : Bool) (fixed : Option ℤ) → written_words f.reduces (stored_by b f mode h fixed value) ≡ stores_by b h fixed
-    by false fixed = block-writes f.reduces mode h.slot value
+    by false fixed = (one-access_of_block f.reduces mode h.slot value).1
     by true (Some z) = store-writes f.reduces mode (slot_of_word f h (h.word + fixed_word h z)) value
     by true None = among (further_slots h)
 

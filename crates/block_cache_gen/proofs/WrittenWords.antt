@@ -13,7 +13,7 @@ use Rattle.lt_isa.specs.declared.instructions.Instr.TheVariants.{Li, Alu, Ldw, B
 use Rattle.src_tree.specs.Prelude.{context_of, height_of, label_of, LowStatement, Tree, Number, Variable, Element, Operation, Statement, SetVariable, SetElement, Choice, Loop}
 use Rattle.src_tree.proofs.TreeHeights.{height-some}
 use Rattle.strength_reduction.specs.Prelude.{Step, Constant, Compute, StepFits, numbered, code_of}
-use Rattle.step_code.proofs.Registers.{numbered-to}
+use Rattle.strength_reduction.proofs.Registers.{numbered-to}
 use Rattle.held_registers.specs.Prelude.{public_zero, IsSoundHeld}
 use Rattle.block_cache_gen.specs.declared.frames.Mode.{Mode}
 use Rattle.block_cache_gen.specs.Prelude.{IsAssignment, by_mode, Home, Setting, home_of, register_for, read_code, zero_of, held_number, applied_code, reducing, reducer, fixed_index, scalar_code, numbering, least_word, numbered_code, numbered_register, shift_code, offset_code, placed_code, located_code, load_code, skips, access_by, access_code, operand, operand_part, operand_register, left_operand, index_operand, indexed_code, stored_code, operation_code, steps_at, expr_code, store_code, write_code, set_code, straight, scalar_set, straight_code, target, is_held_register, is_write, written_words, mode_writes, set_stores}
@@ -137,7 +137,7 @@ module _ (once : Bool) (to : ℕ) (low : to + 2 < 21) where
   steps-writes (Compute op rd left right ∷ steps) fits =
       let first = All-head StepFits (Compute op rd left right) steps fits in
       none-more once (Alu op (numbered to rd) (numbered to left) (numbered to right)) (code_of to steps)
-      (low-plain (numbered to rd) (omega (arith, numbered-to to rd first.0)))
+      (low-plain (numbered to rd) (omega (arith, numbered-to to 2 rd first.0)))
       (steps-writes steps (All-tail StepFits (Compute op rd left right) steps fits))
 
   operation-writes : (f : Setting) (op : Op) (b : Tree) (left right : ℕ) (found : Option (List Step))

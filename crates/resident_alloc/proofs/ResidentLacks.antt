@@ -37,17 +37,11 @@ counted_as p q f same (d ∷ ds) =
 
 public_is : (c : Class) → is_same PublicScalar c ≡ is_scalar_class Public c
 public_is PublicScalar = refl
-public_is SecretScalar = refl
-public_is PublicArray = refl
-public_is EncryptedArray = refl
-public_is ObliviousArray = refl
+public_is other = refl
 
 secret_is : (c : Class) → is_same SecretScalar c ≡ is_scalar_class Secret c
 secret_is PublicScalar = refl
-secret_is SecretScalar = refl
-secret_is PublicArray = refl
-secret_is EncryptedArray = refl
-secret_is ObliviousArray = refl
+secret_is other = refl
 
 public_counted : (p : Source) → count_by (is_of PublicScalar) (wants_of p) ≡ scalars_of Public p
 public_counted p =

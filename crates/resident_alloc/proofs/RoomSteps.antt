@@ -49,17 +49,26 @@ left_out_others c room v vs is = by (is_of c v) (nat_lt room v.words) refl is wh
       (le-leb v.words room (ltb-false room v.words long)))
   by false b long is = refl
 
+-- one array more is left over by a function of the rest
+pushed_on : (left : List Want → List Want) (vs : List Want) (i : ℕ) (d : Want) (out more all : List Want) → i < length vs
+    → left (get_or vs i d ∷ drop (i + 1) vs) ≡ get_or vs i d ∷ left (drop (i + 1) vs)
+    → more ≡ out ++ get_or vs i d ∷ []
+    → out ++ left (drop i vs) ≡ all → more ++ left (drop (i + 1) vs) ≡ all
+pushed_on left vs i d out more all within first pushed so_far =
+    let v = get_or vs i d in
+    ap (λ (m : List Want). m ++ left (drop (i + 1) vs)) pushed
+    ∙ append_assoc out (v ∷ []) (left (drop (i + 1) vs))
+    ∙ ap (λ (rest : List Want). out ++ rest) (sym first)
+    ∙ ap (λ (rest : List Want). out ++ rest) (sym (at_drop_more left vs i d within))
+    ∙ so_far
+
 -- one array more is left out
 pub left_out_pushed : (c : Class) (left : ℕ) (vs : List Want) (i : ℕ) (d : Want) (out more all : List Want)
     → i < length vs → is_left_out c left (get_or vs i d) ≡ true → more ≡ out ++ get_or vs i d ∷ []
     → out ++ left_out c left (drop i vs) ≡ all → more ++ left_out c left (drop (i + 1) vs) ≡ all
 left_out_pushed c left vs i d out more all within is pushed so_far =
-    let v = get_or vs i d in
-    ap (λ (m : List Want). m ++ left_out c left (drop (i + 1) vs)) pushed
-    ∙ append_assoc out (v ∷ []) (left_out c left (drop (i + 1) vs))
-    ∙ ap (λ (rest : List Want). out ++ rest) (sym (left_out_first c left v (drop (i + 1) vs) is))
-    ∙ ap (λ (rest : List Want). out ++ rest) (sym (at_drop_more (left_out c left) vs i d within))
-    ∙ so_far
+    pushed_on (left_out c left) vs i d out more all within
+    (left_out_first c left (get_or vs i d) (drop (i + 1) vs) is) pushed so_far
 
 pub left_out_passed : (c : Class) (left now : ℕ) (vs : List Want) (i : ℕ) (d : Want) (out all : List Want)
     → i < length vs → is_left_out c left (get_or vs i d) ≡ false → now ≡ room_behind c left (get_or vs i d)
@@ -136,12 +145,8 @@ pub kept : (size n : ℕ) (vs : List Want) (i : ℕ) (d : Want) (out more all : 
     → i < length vs → is_skipped size n (get_or vs i d) ≡ false → more ≡ out ++ get_or vs i d ∷ []
     → out ++ without_short size n (drop i vs) ≡ all → more ++ without_short size n (drop (i + 1) vs) ≡ all
 kept size n vs i d out more all within is pushed so_far =
-    let v = get_or vs i d in
-    ap (λ (m : List Want). m ++ without_short size n (drop (i + 1) vs)) pushed
-    ∙ append_assoc out (v ∷ []) (without_short size n (drop (i + 1) vs))
-    ∙ ap (λ (rest : List Want). out ++ rest) (sym (kept_first size n v (drop (i + 1) vs) is))
-    ∙ ap (λ (rest : List Want). out ++ rest) (sym (at_drop_more (without_short size n) vs i d within))
-    ∙ so_far
+    pushed_on (without_short size n) vs i d out more all within
+    (kept_first size n (get_or vs i d) (drop (i + 1) vs) is) pushed so_far
 
 pub skipped_done : (size n : ℕ) (vs : List Want) (i : ℕ) (out all : List Want) → length vs ≤ i
     → out ++ without_short size n (drop i vs) ≡ all → out ≡ all

@@ -1,12 +1,10 @@
 -- When the variables of a program that is compiled with `--fast` have room, and what lacks room first. A program isn't
 -- rejected for an array that can't be resident. (This project's profile.)
 use Rattle.std.specs.Prelude.{ℕ, ◌^◌, ◌<◌, ◌≤◌}
-use Rattle.gr_word.specs.declared.variables.Label.TheVariants.{Public, Secret}
 use Rattle.lt_isa.specs.Limits.{most_blocks}
 use Rattle.src_tree.specs.Trees.{Source}
 use Rattle.bank_alloc.specs.declared.places.PlaceError.{PlaceError}
-use Rattle.bank_alloc.specs.declared.places.PlaceError.TheVariants.{TooManyScalars, BankFull, Memory}
-use Rattle.bank_alloc.specs.Fits.{ScalarsFit, scalars_of}
+use Rattle.bank_alloc.specs.Fits.{LacksRoom, ScalarsFit}
 use Rattle.resident_alloc.specs.Residents.{wants_of}
 use Rattle.resident_alloc.specs.ResidentPlan.{resident_banks, resident_blocks}
 
@@ -23,9 +21,6 @@ pub record IsFirstOverfull (p : Source) (w : ℕ) (bank : ℕ) : Type 0 where
   pub full : most_blocks bank < resident_blocks (2 ^ w) (wants_of p) bank
   pub first : ResidentsFitBelow p w bank
 
--- The public scalars come first, then the secret ones, then the banks from the lowest. Want of memory says nothing.
+-- what lacks room first
 abbrev pub ResidentsRefuse : Source → ℕ → PlaceError → Type 0
-ResidentsRefuse p w (TooManyScalars Public) = 2 ^ w < scalars_of Public p
-ResidentsRefuse p w (TooManyScalars Secret) = (scalars_of Public p ≤ 2 ^ w) × (2 ^ w < scalars_of Secret p)
-ResidentsRefuse p w (BankFull bank) = ScalarsFit p w × IsFirstOverfull p w bank
-ResidentsRefuse p w Memory = Unit {0}
+ResidentsRefuse p w e = LacksRoom (IsFirstOverfull p w) p w e

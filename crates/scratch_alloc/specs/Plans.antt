@@ -5,7 +5,7 @@ use Rattle.gr_base.specs.Lists.{Within}
 use Rattle.gr_word.specs.declared.variables.Label.TheVariants.{Secret}
 use Rattle.lt_isa.specs.Limits.{most_blocks}
 use Rattle.src_tree.specs.declared.trees.Decl.{Decl}
-use Rattle.src_tree.specs.Limits.{words_of}
+use Rattle.src_tree.specs.Limits.{IsWithinLimits, words_of}
 use Rattle.src_tree.specs.Trees.{Source}
 use Rattle.bank_alloc.specs.declared.classes.Class.TheVariants.{ObliviousArray}
 use Rattle.bank_alloc.specs.declared.places.Place.{Place}
@@ -130,3 +130,8 @@ pub record IsSoundPlan (p : Source) (w : ℕ) (plan : Plan) : Type 0 where
   pub pins : (slot : ℕ) (p : Pin) → pin_of_slot plan slot ≡ Some p → IsSoundPin plan slot p
   pub pins_apart : (j k : ℕ) (p q : Pin) → pin_of_slot plan j ≡ Some p → pin_of_slot plan k ≡ Some q
       → p.bank ≡ q.bank → p.block ≡ q.block → j ≡ k
+
+-- plans are sound for each program whose variables have room
+abbrev pub ArePlansSound : (Source → ℕ → Type 0) → (Source → ℕ → Plan) → Type 0
+ArePlansSound HasRoom plan =
+    (p : Source) (w : ℕ) → IsWithinLimits p → Within 3 9 w → HasRoom p w → IsSoundPlan p w (plan p w)

@@ -1,9 +1,7 @@
 ghost use Rattle.std.specs.Prelude.{ℕ, List, ◌<◌, length, slice_index_or, take};
 ghost use Rattle.bank_alloc.specs.declared.places.Place.{Place};
 ghost use Rattle.bank_alloc.specs.Prelude.{Fits};
-ghost use Rattle.gr_base.specs.Prelude.{Within};
-ghost use Rattle.src_tree.specs.Prelude.{IsWithinLimits, Source};
-ghost use Rattle.scratch_alloc.specs.Plans.{IsSoundPlan, standard_plan};
+ghost use Rattle.scratch_alloc.specs.Plans.{ArePlansSound, standard_plan};
 ghost use Rattle.scratch_alloc.specs.Slots.{HasSlot, slots_of};
 
 /// Does nothing; its clause is the law of slots: each variable has a slot by what its place is.
@@ -16,9 +14,5 @@ pub fn slot_laws()
 
 /// Does nothing; its clause says that the plan of [`crate::slots`] is sound for each program with room for its variables.
 pub fn plan_laws()
-    ensures standard { (p : Source) (w : ℕ)
-        → IsWithinLimits p
-        → Within 3 9 w
-        → Fits p w
-        → IsSoundPlan p w (standard_plan p w) }
+    ensures standard { ArePlansSound Fits standard_plan }
 {}

@@ -1,4 +1,3 @@
-pub mod Registers
 pub mod StepRuns
 pub mod StepPasses
 pub mod StepWalks

@@ -8,7 +8,7 @@ use Rattle.lt_isa.specs.Prelude.{Parts, IsInRange, State, register, IsShaped, He
 use Rattle.stretches.specs.Prelude.{StandsAt, RunsThrough, Sets}
 use Rattle.stretches.proofs.RunningThrough.{runs-cons, runs-weaker, sets-li, sets-alu}
 use Rattle.strength_reduction.specs.Prelude.{Step, Constant, Compute, StepFits, replaced, words_after, numbered, code_of}
-use Rattle.step_code.proofs.Registers.{numbered-low, numbered-from, numbered-to, set-own}
+use Rattle.strength_reduction.proofs.Registers.{numbered-low, numbered-from, numbered-to, set-own}
 
 -- the registers of the steps have these words; those below and above, the slots and the banks are as before
 pub record Leaves (base : ℕ) (words : ℕ → ℤ) (s t : State) : Type 0 where
@@ -26,7 +26,7 @@ leaves-on {base = base} to word low sets rest = record {
   below = λ r under.
       rest.below r under ∙ sets.others r (λ same. absurd (omega (arith, numbered-from base to)));
   above = λ r over.
-      rest.above r over ∙ sets.others r (λ same. absurd (omega (arith, numbered-to base to low, over, same)));
+      rest.above r over ∙ sets.others r (λ same. absurd (omega (arith, numbered-to base 2 to low, over, same)));
   slots = rest.slots ∙ sets.slots;
   banks = rest.banks ∙ sets.banks;
 }
@@ -53,11 +53,11 @@ module _ (o : Parts) (fits : IsInRange o) (base : ℕ) (room : base + 2 < 32) wh
       let rd = numbered base to in
       let Done : State → Type 0 = Leaves base (words_after steps (replaced words to value)) s in
       runs-cons s (Li rd value) (code_of base steps) [] [] (Sets s rd value) Done at
-      (sets-li o fits s shaped rd value (numbered-low base to first.0 room))
+      (sets-li o fits s shaped rd value (numbered-low base 2 to first.0 room))
       (λ t shape sets at'.
       runs-weaker t (code_of base steps) [] [] (Leaves base (words_after steps (replaced words to value)) t) Done
       (runs-steps steps (replaced words to value) t (All-tail StepFits (Constant to value) steps low) shape
-      (set-own base to value (register s) (register t) words sets.value sets.others held) at')
+      (set-own base 2 to value (register s) (register t) words sets.value sets.others held) at')
       refl
       (λ u shape' rest. leaves-on to value first.0 sets rest))
   runs-steps (Compute op to left right ∷ steps) words s low shaped held at =
@@ -71,10 +71,10 @@ module _ (o : Parts) (fits : IsInRange o) (base : ℕ) (room : base + 2 < 32) wh
       runs-cons s (Alu op rd (numbered base left) (numbered base right)) (code_of base steps) [] [] (Sets s rd word)
       Done at
       (sets-alu o fits s shaped op rd (numbered base left) (numbered base right) word
-      (numbered-low base to first.0 room) is)
+      (numbered-low base 2 to first.0 room) is)
       (λ t shape sets at'.
       runs-weaker t (code_of base steps) [] [] (Leaves base (words_after steps (replaced words to word)) t) Done
       (runs-steps steps (replaced words to word) t (All-tail StepFits (Compute op to left right) steps low) shape
-      (set-own base to word (register s) (register t) words sets.value sets.others held) at')
+      (set-own base 2 to word (register s) (register t) words sets.value sets.others held) at')
       refl
       (λ u shape' rest. leaves-on to word first.0 sets rest))

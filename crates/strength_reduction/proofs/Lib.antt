@@ -5,3 +5,4 @@ pub mod QuotientResults
 pub mod Shapes
 pub mod Replacing
 pub mod Codes
+pub mod Registers

@@ -1,6 +1,6 @@
 -- The code that reads a word of an array with several blocks does what one instruction does that reads a word of a slot: in
 -- a run, for the check in public code, and in an arm.
-use Rattle.std.proofs.Common.{◌≡◌, ℕ, suc, ◌+◌, ◌-◌, ◌*◌, ◌/◌, ◌%◌, ◌<◌, ◌≤◌, Bool, true, false, not, ◌||◌, pos, List, [], ◌∷◌, length, Option, Some, None, refl, sym, ap, ◌∙◌, subst, ⊎_elim, arith, mod-lt, inl, inr}
+use Rattle.std.proofs.Common.{◌≡◌, ℕ, suc, ◌+◌, ◌-◌, ◌*◌, ◌/◌, ◌%◌, ◌<◌, ◌≤◌, Bool, true, false, not, ◌||◌, pos, List, [], ◌∷◌, ◌++◌, length, Option, Some, None, refl, sym, ap, ◌∙◌, subst, ⊎_elim, arith, mod-lt, inl, inr}
 use Rattle.std.specs.Prelude.{slice_get, slice_index_or}
 use Rattle.std.specs.List.{AllByRecursion}
 use Rattle.std.proofs.lemmas.Bool.{cases_lt}
@@ -21,7 +21,7 @@ use Rattle.stretches.proofs.Passed.{GoesOn}
 use Rattle.stretches.proofs.RunningThrough.{runs-weaker}
 use Rattle.stretches.proofs.ArmCode.{Walked}
 use Rattle.strength_reduction.specs.Prelude.{numbered, replaced}
-use Rattle.word_selection.specs.Prelude.{IsBound, ReadsWord, SlotStep, Constant, Compute, Combine, Read, Write, Contents, StepFits, IsReading, MayWrite, after, labels_after, trees_after, steps_show, slot_at, choice_steps, choices_steps, read_steps, selected_read, choices_shows, read_shows}
+use Rattle.word_selection.specs.Prelude.{IsBound, ReadsWord, SlotStep, Constant, Compute, Combine, Read, Write, Contents, StepFits, IsReading, MayWrite, after, labels_after, trees_after, steps_show, slot_at, choice_steps, choices_steps, read_steps, selected_read, choice_shows, choices_shows, read_shows}
 use Rattle.word_selection.proofs.SlotContents.{HaveWords}
 use Rattle.word_selection.proofs.SlotRuns.{Leaves, runs-steps}
 use Rattle.word_selection.proofs.SlotPasses.{passes-steps}
@@ -277,15 +277,7 @@ choices-show : (profile : Profile) (size i : ℕ) (slots : List ℕ) (first : �
     → steps_show profile (choices_steps size i (first ∷ slots)) ≡ choices_shows profile (suc (length slots))
 choices-show profile size i [] first = refl
 choices-show profile size i (next ∷ slots) first =
-    ap (λ (shows : List Show).
-    Gap 1
-    ∷ Gap (operation_cost profile Sub)
-    ∷ Gap (operation_cost profile Shr)
-    ∷ Gap profile.word
-    ∷ Gap (operation_cost profile Xor)
-    ∷ Gap (operation_cost profile And)
-    ∷ Gap (operation_cost profile Xor)
-    ∷ shows) (choices-show profile size (suc i) slots next)
+    ap (λ (shows : List Show). choice_shows profile ++ shows) (choices-show profile size (suc i) slots next)
 
 pub read-show : (profile : Profile) (size : ℕ) (slots : List ℕ)
     → steps_show profile (read_steps size slots) ≡ read_shows profile (length slots)

@@ -7,7 +7,8 @@ use Rattle.trace_patterns.specs.Prelude.{Known, is_secret, bank_known, set_secre
 use Rattle.stretches.proofs.Passed.{GoesOn, NoMore, One, rules-li, rules-alu, rules-ldw, rules-stw, secret-same, secret-other}
 use Rattle.strength_reduction.specs.Prelude.{replaced, numbered}
 use Rattle.word_selection.specs.Prelude.{SlotStep, Constant, Compute, Combine, IsOutside, Read, Write, StepFits, labels_after, MayWrite, code_of}
-use Rattle.word_selection.proofs.Registers.{numbered-low, outside-other, set-own}
+use Rattle.strength_reduction.proofs.Registers.{numbered-low, set-own}
+use Rattle.word_selection.proofs.Registers.{outside-other}
 
 -- what the check knows after code that it passes: the labels of the steps' registers, and the rest as before
 pub record Passed (o : Parts) (base most p : ℕ) (steps : List SlotStep) (secret : ℕ → Bool) (k : Known) : Type 0 where

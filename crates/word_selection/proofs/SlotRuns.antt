@@ -11,7 +11,8 @@ use Rattle.stretches.proofs.Coming.{comes-stw}
 use Rattle.stretches.proofs.RunningThrough.{runs-cons, runs-weaker, sets-li, sets-alu, sets-ldw}
 use Rattle.strength_reduction.specs.Prelude.{numbered, replaced}
 use Rattle.word_selection.specs.Prelude.{IsBound, SlotStep, Constant, Compute, Combine, IsOutside, Read, Write, StepFits, Contents, after_step, after, code_of, word_of, with_word_at, with_word, slot_at}
-use Rattle.word_selection.proofs.Registers.{numbered-low, outside-other, set-own}
+use Rattle.strength_reduction.proofs.Registers.{numbered-low, set-own}
+use Rattle.word_selection.proofs.Registers.{outside-other}
 use Rattle.word_selection.proofs.SlotContents.{still-bound}
 
 -- the registers of the steps and the slots have these contents; the other registers and the banks are as before

@@ -11,7 +11,8 @@ use Rattle.stretches.specs.Prelude.{Gap, pattern_of_one}
 use Rattle.stretches.proofs.ArmCode.{Walked, walked-none, walked-on}
 use Rattle.strength_reduction.specs.Prelude.{replaced, numbered}
 use Rattle.word_selection.specs.Prelude.{instruction_of, SlotStep, Constant, Compute, Combine, IsOutside, Read, Write, StepFits, IsReading, trees_after, step_show, steps_show, code_of}
-use Rattle.word_selection.proofs.Registers.{numbered-low, outside-other, set-own}
+use Rattle.strength_reduction.proofs.Registers.{numbered-low, set-own}
+use Rattle.word_selection.proofs.Registers.{outside-other}
 
 pub record Walks (o : Parts) (depth base most : ℕ) (steps : List SlotStep) (trees : ℕ → Option Value)
     (s : SymState) : Type 0 where

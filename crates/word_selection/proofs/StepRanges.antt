@@ -8,7 +8,7 @@ use Rattle.gr_word.specs.Prelude.{IsWord}
 use Rattle.lt_isa.specs.Prelude.{InstrFits}
 use Rattle.word_selection.specs.declared.effects.Effect.{Effect}
 use Rattle.word_selection.specs.Prelude.{SlotStep, Constant, Compute, Combine, Read, Write, IsOutside, StepFits, OperandFits, instruction_of, code_of, choices_steps, read_steps, selected_read, mask_register, next_mask_steps, exchange_steps, exchanges_steps, write_steps, selected_write}
-use Rattle.word_selection.proofs.Registers.{numbered-low}
+use Rattle.strength_reduction.proofs.Registers.{numbered-low}
 use Rattle.word_selection.proofs.ReadLaws.{read-fits}
 use Rattle.word_selection.proofs.WriteLaws.{write-fits}
 

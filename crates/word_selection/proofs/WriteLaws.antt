@@ -7,7 +7,7 @@ use Rattle.std.proofs.lemmas.Nat.{pow_pos, shr_split}
 use Rattle.std.proofs.lemmas.Option.{slice_get-get_or}
 use Rattle.std.proofs.Math.Nat.{div-lt_iff_lt-mul}
 use Rattle.gr_word.specs.Prelude.{IsWord}
-use Rattle.gr_word.specs.declared.operations.Op.TheVariants.{Sub, And, Xor, Shr}
+use Rattle.gr_word.specs.declared.operations.Op.TheVariants.{Xor}
 use Rattle.lt_isa.specs.declared.profiles.Profile.{Profile}
 use Rattle.lt_isa.specs.declared.instructions.Instr.{Instr}
 use Rattle.lt_isa.specs.Prelude.{Parts, block_words, is_ram, IsInRange, operation_cost, Slot, State, register, slot, IsShaped}
@@ -19,7 +19,7 @@ use Rattle.stretches.proofs.Passed.{GoesOn}
 use Rattle.stretches.proofs.RunningThrough.{runs-weaker}
 use Rattle.stretches.proofs.ArmCode.{Walked}
 use Rattle.strength_reduction.specs.Prelude.{numbered, replaced}
-use Rattle.word_selection.specs.Prelude.{IsBound, WritesWord, SlotStep, Constant, Compute, Combine, Read, IsOutside, Write, Contents, StepFits, MayWrite, after, steps_show, with_word, written_from, mask_register, mask_steps, difference_steps, first_steps, next_mask_steps, exchange_steps, exchanges_steps, write_steps, selected_write, exchanges_shows, write_shows}
+use Rattle.word_selection.specs.Prelude.{IsBound, WritesWord, SlotStep, Constant, Compute, Combine, Read, IsOutside, Write, Contents, StepFits, MayWrite, after, steps_show, with_word, written_from, mask_register, mask_steps, difference_steps, first_steps, next_mask_steps, exchange_steps, exchanges_steps, write_steps, selected_write, mask_shows, exchange_shows, exchanges_shows, write_shows}
 use Rattle.word_selection.specs.declared.effects.Effect.{Effect}
 use Rattle.word_selection.specs.declared.effects.Effect.TheVariants.{Stores, Keeps}
 use Rattle.word_selection.proofs.SlotRuns.{Leaves, runs-steps}
@@ -105,6 +105,28 @@ module _ (o : Parts) (fits : IsInRange o) (to value : ℕ) (room : to + 4 < 32) 
   contents : Contents
   contents = record { registers = λ i. register s (numbered to i); outside = register s; slots = s.slots }
 
+  -- the code leaves the slots that its steps leave
+  runs-left : (effect : Effect) (left : List Slot)
+      → StandsAt o s.place (selected_write effect (block_words o) value slots to)
+      → (after (block_words o) (write_steps effect (block_words o) value slots) contents).slots ≡ left
+      → RunsThrough o s (selected_write effect (block_words o) value slots to) [] (WritesWord to left s)
+  unfolding contents
+  runs-left effect left at are =
+      let size = block_words o in
+      let steps = write_steps effect size value slots in
+      runs-weaker s (selected_write effect size value slots to) [] [] (Leaves to 4 (after size steps contents) s)
+      (WritesWord to left s)
+      (runs-steps o fits to 4 room (IsOneOf slots) steps contents s
+      (write-fits to value apart (IsOneOf slots) effect size slots (λ j one. one))
+      shaped (λ i le. refl) (λ r outer. refl) refl (λ j one. bound one.index j one.is) at)
+      refl
+      (λ t shape leaves. record {
+        below = λ r under. leaves.outside r (inl under);
+        above = λ r over. leaves.outside r (inr over);
+        slots_are = leaves.slots ∙ are;
+        banks = leaves.banks;
+      })
+
   -- The word of the array whose number is in register `to` becomes the value in another register: the word of the slot of
   -- its block.
   pub runs-write : (word : ℤ) (n default : ℕ) → register s value ≡ word → register s to ≡ pos n
@@ -117,50 +139,22 @@ module _ (o : Parts) (fits : IsInRange o) (to value : ℕ) (room : to + 4 < 32) 
   unfolding contents
   runs-write word n default is number inside at =
       let size = block_words o in
-      let steps = write_steps Stores size value slots in
       let k = slice_index_or slots (n / size) default in
       let masked = sizes-masked o.profile.block_log (length slots) fits.profile.block_log.0 fits.profile.block_log.1 few in
       let found : slice_get slots (n / size) ≡ Some k =
       slice_get-get_or slots (n / size) default
       ((div-lt_iff_lt-mul {k = size} {x = n} {y = length slots} (pow_pos o.profile.block_log)).1 inside) in
       let split : n ≡ n / size * size + n % size = sym (shr_split n o.profile.block_log) in
-      let left : List Slot = slice_set s.slots k (with_word size (slot s k) (pos n) word) in
-      runs-weaker s (selected_write Stores size value slots to) [] [] (Leaves to 4 (after size steps contents) s)
-      (WritesWord to left s)
-      (runs-steps o fits to 4 room (IsOneOf slots) steps contents s
-      (write-fits to value apart (IsOneOf slots) Stores size slots (λ j one. one))
-      shaped (λ i le. refl) (λ r outer. refl) refl (λ j one. bound one.index j one.is) at)
-      refl
-      (λ t shape leaves. record {
-        below = λ r under. leaves.outside r (inl under);
-        above = λ r over. leaves.outside r (inr over);
-        slots_are =
-            leaves.slots
-            ∙ write-word size (length slots * size) masked n inside value word
-            (subst IsWord is (IsWord-register o s shaped value)) slots contents (n / size) (n % size) k (omega arith)
-            (have-words o s shaped) is number split (mod-lt n (pow_pos o.profile.block_log)) found;
-        banks = leaves.banks;
-      })
+      runs-left Stores (slice_set s.slots k (with_word size (slot s k) (pos n) word)) at
+      (write-word size (length slots * size) masked n inside value word
+      (subst IsWord is (IsWord-register o s shaped value)) slots contents (n / size) (n % size) k (omega arith)
+      (have-words o s shaped) is number split (mod-lt n (pow_pos o.profile.block_log)) found)
 
   -- without effect
   pub runs-write_back : StandsAt o s.place (selected_write Keeps (block_words o) value slots to)
       → RunsThrough o s (selected_write Keeps (block_words o) value slots to) [] (WritesWord to s.slots s)
   unfolding contents
-  runs-write_back at =
-      let size = block_words o in
-      let steps = write_steps Keeps size value slots in
-      runs-weaker s (selected_write Keeps size value slots to) [] [] (Leaves to 4 (after size steps contents) s)
-      (WritesWord to s.slots s)
-      (runs-steps o fits to 4 room (IsOneOf slots) steps contents s
-      (write-fits to value apart (IsOneOf slots) Keeps size slots (λ j one. one))
-      shaped (λ i le. refl) (λ r outer. refl) refl (λ j one. bound one.index j one.is) at)
-      refl
-      (λ t shape leaves. record {
-        below = λ r under. leaves.outside r (inl under);
-        above = λ r over. leaves.outside r (inr over);
-        slots_are = leaves.slots ∙ keeps-slots size value slots contents;
-        banks = leaves.banks;
-      })
+  runs-write_back at = runs-left Keeps s.slots at (keeps-slots (block_words o) value slots contents)
 
 -- ---- the check in public code, of a bank that isn't plain memory
 
@@ -213,31 +207,15 @@ exchanges-show profile effect size value i turn [] = refl
 exchanges-show profile effect size value i turn (slot ∷ []) = refl
 exchanges-show profile effect size value i turn (slot ∷ next ∷ slots) =
     ap (λ (shows : List Show).
-    Gap 1
-    ∷ Gap (operation_cost profile Sub)
-    ∷ Gap (operation_cost profile Shr)
-    ∷ Gap (operation_cost profile Xor)
-    ∷ Gap profile.word
-    ∷ Gap (operation_cost profile Xor)
-    ∷ Gap (operation_cost profile And)
-    ∷ Gap (operation_cost profile Xor)
-    ∷ Gap profile.word
-    ∷ shows) (exchanges-show profile effect size value (suc i) (not turn) (next ∷ slots))
+    mask_shows profile ++ (Gap (operation_cost profile Xor) ∷ (exchange_shows profile ++ shows)))
+    (exchanges-show profile effect size value (suc i) (not turn) (next ∷ slots))
 
 pub write-show : (profile : Profile) (effect : Effect) (size value : ℕ) (slots : List ℕ)
     → steps_show profile (write_steps effect size value slots) ≡ write_shows profile (length slots)
 write-show profile effect size value [] = refl
 write-show profile effect size value (slot ∷ slots) =
-    ap (λ (shows : List Show).
-    Gap 1
-    ∷ Gap (operation_cost profile Sub)
-    ∷ Gap (operation_cost profile Shr)
-    ∷ Gap profile.word
-    ∷ Gap (operation_cost profile Xor)
-    ∷ Gap (operation_cost profile And)
-    ∷ Gap (operation_cost profile Xor)
-    ∷ Gap profile.word
-    ∷ shows) (exchanges-show profile effect size value 1 false slots)
+    ap (λ (shows : List Show). mask_shows profile ++ (exchange_shows profile ++ shows))
+    (exchanges-show profile effect size value 1 false slots)
 
 pub record WalksWrite (o : Parts) (depth to : ℕ) (code : List Instr) (shows : List Show) (s : SymState) : Type 0 where
   pub state : SymState

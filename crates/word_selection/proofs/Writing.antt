@@ -31,31 +31,33 @@ keeping_new size slots k at word mask =
     with_word_at size slots k at
     (applied Xor (applied And (applied Xor (word_of size (slot_at slots k) at) word) mask) word)
 
+-- a word that is chosen is written, or the slots stay
+chosen : (size : ℕ) (slots : List Slot) (k : ℕ) (at word : ℤ) (p : Bool)
+    → with_word_at size slots k at (cond p word (word_of size (slot_at slots k) at)) ≡ exchanged size slots k at word p
+unfolding exchanged
+chosen size slots k at word true = refl
+chosen size slots k at word false = written-back size slots k at
+
 keeping_old-is : (size : ℕ) (slots : List Slot) (k : ℕ) (at word : ℤ) (p : Bool) → HaveWords slots → IsWord word
     → keeping_old size slots k at word (mask_of p) ≡ exchanged size slots k at word p
-unfolding exchanged keeping_old
+unfolding keeping_old
 keeping_old-is size slots k at word p words fits =
     ap (with_word_at size slots k at)
     (exchanged_is p (word_of size (slot_at slots k) at) word (word-fits size slots k at words) fits)
-    ∙ by p
-  where
-    by : (p : Bool) → with_word_at size slots k at (cond p word (word_of size (slot_at slots k) at))
-        ≡ cond p (with_word_at size slots k at word) slots
-    by true = refl
-    by false = written-back size slots k at
+    ∙ chosen size slots k at word p
 
 keeping_new-is : (size : ℕ) (slots : List Slot) (k : ℕ) (at word : ℤ) (p : Bool) → HaveWords slots → IsWord word
     → keeping_new size slots k at word (mask_of p) ≡ exchanged size slots k at word (not p)
-unfolding exchanged keeping_new
+unfolding keeping_new
 keeping_new-is size slots k at word p words fits =
+    let old = word_of size (slot_at slots k) at in
     ap (with_word_at size slots k at)
-    (restored_is p (word_of size (slot_at slots k) at) word (word-fits size slots k at words) fits)
-    ∙ by p
+    (restored_is p old word (word-fits size slots k at words) fits ∙ restored-other p old word)
+    ∙ chosen size slots k at word (not p)
   where
-    by : (p : Bool) → with_word_at size slots k at (cond p (word_of size (slot_at slots k) at) word)
-        ≡ cond (not p) (with_word_at size slots k at word) slots
-    by true = written-back size slots k at
-    by false = refl
+    restored-other : (p : Bool) (old new : ℤ) → cond p old new ≡ cond (not p) new old
+    restored-other true old new = refl
+    restored-other false old new = refl
 
 exchanged-words : (size : ℕ) (slots : List Slot) (k : ℕ) (at word : ℤ) (p : Bool) → HaveWords slots → IsWord word
     → HaveWords (exchanged size slots k at word p)

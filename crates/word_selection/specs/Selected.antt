@@ -1,7 +1,7 @@
 -- What a run through the code leaves that reads or writes a word of an array with several blocks. (This project's own
 -- choice.)
-use Rattle.std.specs.Prelude.{◌≡◌, ℕ, ◌+◌, ◌<◌, ℤ, List}
-use Rattle.lt_isa.specs.Machine.{Slot, Bound, State, register}
+use Rattle.std.specs.Prelude.{◌≡◌, ℕ, ◌+◌, ◌<◌, ◌≤◌, ℤ, List, length, slice_get, Some}
+use Rattle.lt_isa.specs.Machine.{Slot, Bound, State, register, slot}
 
 -- a slot is bound to some block
 pub record IsBound (x : Slot) : Type 0 where
@@ -9,6 +9,10 @@ pub record IsBound (x : Slot) : Type 0 where
   pub block : ℕ
   pub words : List ℤ
   pub is : x ≡ Bound bank block words
+
+-- at most eight slots, each bound to some block
+abbrev pub AreBound : State → List ℕ → Type 0
+AreBound s slots = (length slots ≤ 8) × ((i k : ℕ) → slice_get slots i ≡ Some k → IsBound (slot s k))
 
 -- a register has a word; the registers below it and those after the three that follow it, the slots and the banks are as
 -- before

@@ -102,15 +102,18 @@ selected_write effect size value slots to = code_of to (write_steps effect size 
 abbrev pub mask_shows : Profile → List Show
 mask_shows profile = Gap 1 ∷ Gap (operation_cost profile Sub) ∷ Gap (operation_cost profile Shr) ∷ []
 
-abbrev pub choices_shows : Profile → ℕ → List Show
-choices_shows profile zero = []
-choices_shows profile (suc count) =
+abbrev pub choice_shows : Profile → List Show
+choice_shows profile =
     mask_shows profile
     ++ (Gap profile.word
     ∷ Gap (operation_cost profile Xor)
     ∷ Gap (operation_cost profile And)
     ∷ Gap (operation_cost profile Xor)
-    ∷ choices_shows profile count)
+    ∷ [])
+
+abbrev pub choices_shows : Profile → ℕ → List Show
+choices_shows profile zero = []
+choices_shows profile (suc count) = choice_shows profile ++ choices_shows profile count
 
 abbrev pub read_shows : Profile → ℕ → List Show
 read_shows profile zero = []

@@ -1,7 +1,7 @@
-ghost use Rattle.std.specs.Prelude.{◌≡◌, ◌+◌, ◌*◌, ◌/◌, ◌%◌, ◌<◌, ◌≤◌, ℕ, ℤ, pos, List, [], length, slice_get, slice_index_or, slice_set, Some};
+ghost use Rattle.std.specs.Prelude.{◌≡◌, ◌+◌, ◌*◌, ◌/◌, ◌%◌, ◌<◌, ℕ, ℤ, pos, List, [], length, slice_index_or, slice_set};
 ghost use Rattle.lt_isa.specs.Prelude.{State, register, slot, slot_words, word_in, Parts, block_words, IsInRange, IsShaped};
 ghost use Rattle.stretches.specs.Prelude.{RunsThrough, StandsAt};
-ghost use Rattle.word_selection.specs.Selected.{IsBound, ReadsWord, WritesWord};
+ghost use Rattle.word_selection.specs.Selected.{AreBound, ReadsWord, WritesWord};
 ghost use Rattle.word_selection.specs.Selection.{selected_read, selected_write};
 ghost use Rattle.word_selection.specs.SlotSteps.{IsOutside, with_word};
 ghost use Rattle.word_selection.specs.declared.effects.Effect.TheVariants.{Keeps, Stores};
@@ -14,8 +14,7 @@ pub fn selection_laws()
         → IsInRange o
         → IsShaped o s
         → to + 3 < 32
-        → length slots ≤ 8
-        → ((i k : ℕ) → slice_get slots i ≡ Some k → IsBound (slot s k))
+        → AreBound s slots
         → register s to ≡ pos n
         → n < length slots * block_words o
         → StandsAt o s.place (selected_read (block_words o) slots to)
@@ -26,8 +25,7 @@ pub fn selection_laws()
         → IsShaped o s
         → to + 4 < 32
         → IsOutside to 4 value
-        → length slots ≤ 8
-        → ((i k : ℕ) → slice_get slots i ≡ Some k → IsBound (slot s k))
+        → AreBound s slots
         → register s value ≡ word
         → register s to ≡ pos n
         → n < length slots * block_words o
@@ -40,8 +38,7 @@ pub fn selection_laws()
         → IsShaped o s
         → to + 4 < 32
         → IsOutside to 4 value
-        → length slots ≤ 8
-        → ((i k : ℕ) → slice_get slots i ≡ Some k → IsBound (slot s k))
+        → AreBound s slots
         → StandsAt o s.place (selected_write Keeps (block_words o) value slots to)
         → RunsThrough o s (selected_write Keeps (block_words o) value slots to) [] (WritesWord to s.slots s) }
 {}
