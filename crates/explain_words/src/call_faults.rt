@@ -21,22 +21,17 @@ pub(crate) fn explain_calls_fault(
     fault: InlineError,
     out: &mut Words,
 ) {
-    let explained = match Procedures::of(alloc, tokens) {
-        Ok(procedures) => explain_fault(alloc, &procedures, fault, out),
-        Err(error) => Err(error),
-    };
-    if explained.is_err() {
-        out.starve();
-    }
+    let put = explain_fault(alloc, tokens, fault, out);
+    out.starve_on(put);
 }
 
 fn explain_fault(
     alloc: Global,
-    procedures: &Procedures<'_>,
+    tokens: Tokens<'_>,
     fault: InlineError,
     out: &mut Words,
 ) -> Result<(), Memory> {
-    let tokens = procedures.tokens;
+    let procedures = Procedures::of(alloc, tokens)?;
     match fault {
         InlineError::TwiceNamed(number) => {
             return procedures.put_twice_named(alloc, number, out);

@@ -10,9 +10,8 @@ use std::collections::BTreeMap;
 
 /// Warns of names that inputs have twice.
 pub(crate) fn warn_of_inputs(alloc: Global, name: &str, text: &[u8], out: &mut Words) {
-    if warned(alloc, name, text, out).is_err() {
-        out.starve();
-    }
+    let put = warned(alloc, name, text, out);
+    out.starve_on(put);
 }
 
 fn warned(alloc: Global, name: &str, text: &[u8], out: &mut Words) -> Result<(), Memory> {

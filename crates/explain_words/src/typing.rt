@@ -19,28 +19,24 @@ const MOST_VARIABLES: u64 = 256;
 
 /// Explains why the program of a file isn't well typed, or which limit it passes.
 pub(crate) fn explain_typing(alloc: Global, tokens: Tokens<'_>, fault: TypeError, out: &mut Words) {
-    let explained = match Procedures::of(alloc, tokens) {
-        Ok(procedures) => explain_fault(alloc, &procedures, fault, out),
-        Err(error) => Err(error),
-    };
-    if explained.is_err() {
-        out.starve();
-    }
+    let put = explain_fault(alloc, tokens, fault, out);
+    out.starve_on(put);
 }
 
 fn explain_fault(
     alloc: Global,
-    procedures: &Procedures<'_>,
+    tokens: Tokens<'_>,
     fault: TypeError,
     out: &mut Words,
 ) -> Result<(), Memory> {
+    let procedures = Procedures::of(alloc, tokens)?;
     let number = match fault {
         TypeError::TwiceDeclared(number) => {
-            procedures.tokens.put_twice(u64::from(number), out);
+            tokens.put_twice(u64::from(number), out);
             return Ok(());
         }
         TypeError::Limit(limit, number) => {
-            return explain_limit(alloc, procedures, limit, number, out);
+            return explain_limit(alloc, &procedures, limit, number, out);
         }
         TypeError::Memory => return Err(Memory),
         TypeError::Undeclared(number) => number,
@@ -50,7 +46,7 @@ fn explain_fault(
         TypeError::SecretGuardOfLoop(number) => number,
         TypeError::LoopInSecret(number) => number,
     };
-    if let Some(sight) = Sight::of(alloc, procedures, u64::from(number))? {
+    if let Some(sight) = Sight::of(alloc, &procedures, u64::from(number))? {
         sight.explain(alloc, fault, out);
     }
     Ok(())

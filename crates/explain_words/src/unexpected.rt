@@ -49,9 +49,7 @@ pub(crate) fn explain_tokens(
         }
         ParseError::Memory => Err(Memory),
     };
-    if put.is_err() {
-        out.starve();
-    }
+    out.starve_on(put);
 }
 
 impl Parsed<'_> {
@@ -169,24 +167,24 @@ impl Parsed<'_> {
     }
 }
 
-// The place of a token with which no program can continue, and its line.
-fn put_token(tokens: Tokens<'_>, at: usize, out: &mut Words) {
+// The place of a token, the token between two texts, and its line.
+fn put_quoted(tokens: Tokens<'_>, at: usize, before: &str, after: &str, out: &mut Words) {
     let spot = spot_at(tokens.text, tokens.start(at));
     out.put_place(tokens.name, spot);
-    out.say("unexpected `");
+    out.say(before);
     out.quote(tokens.word(at));
-    out.say("`");
+    out.say(after);
     out.put_line(tokens.text, spot);
+}
+
+// A token with which no program can continue.
+fn put_token(tokens: Tokens<'_>, at: usize, out: &mut Words) {
+    put_quoted(tokens, at, "unexpected `", "`", out);
 }
 
 // A word that isn't a keyword, and the keyword that it seems to be.
 fn put_meant(tokens: Tokens<'_>, at: usize, keyword: &[u8], out: &mut Words) {
-    let spot = spot_at(tokens.text, tokens.start(at));
-    out.put_place(tokens.name, spot);
-    out.say("`");
-    out.quote(tokens.word(at));
-    out.say("` is not a keyword");
-    out.put_line(tokens.text, spot);
+    put_quoted(tokens, at, "`", "` is not a keyword", out);
     out.suggest(keyword);
 }
 

@@ -90,9 +90,8 @@ impl Count {
 
 /// Warns of what a source that is accepted may not mean.
 pub(crate) fn warn_of_source(alloc: Global, name: &str, text: &[u8], out: &mut Words) {
-    if warned(alloc, name, text, out).is_err() {
-        out.starve();
-    }
+    let put = warned(alloc, name, text, out);
+    out.starve_on(put);
 }
 
 fn warned(alloc: Global, name: &str, text: &[u8], out: &mut Words) -> Result<(), Memory> {

@@ -152,6 +152,13 @@ impl Words {
         self.lacks_memory = true;
     }
 
+    /// Marks that memory ran out, if it did.
+    pub(crate) fn starve_on(&mut self, put: Result<(), Memory>) {
+        if put.is_err() {
+            self.starve();
+        }
+    }
+
     /// Adds a text.
     pub fn say(&mut self, text: &str)
         ensures { Adds self.old self.new text.now }
