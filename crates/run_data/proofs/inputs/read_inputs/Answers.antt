@@ -1,4 +1,4 @@
-use Rattle.std.proofs.Common.{◌≡◌, ◌×◌, ◌+◌, length, Some, option_map, sym, ap, ◌∙◌, subst, All, map, arith}
+use Rattle.std.proofs.Common.{◌≡◌, ◌+◌, length, Some, option_map, sym, ap, ◌∙◌, subst, All, map, arith}
 use Rattle.std.proofs.lemmas.Result.{IfOk-weaker, IfErr-weaker}
 use Rattle.serde_json.specs.Data.{Members}
 use Rattle.serde_json.specs.Find.{as_object}
@@ -10,13 +10,13 @@ use Rattle.run_data.proofs.LeastMembers.{all_kept, least_fault}
 use Rattle.run_data.proofs.inputs.read_inputs.Goals as goal
 
 -- the object's members, of which those with the least names were kept
-members_kept : (c : goal.After-inputs_from) → (ms : Members) × (as_object c.in-Ok.ensures.given.0 ≡ Some ms)
+members_kept : (c : goal.After-drop-members) → (ms : Members) × (as_object c.in-Ok.ensures.given.0 ≡ Some ms)
     × (least_given (length c.args.wants.now + 1) ms ≡ entries_view c.in-Some.members.entries)
 members_kept c =
     object_kept (length c.args.wants.now + 1) c.in-Ok.ensures.given.0 (entries_view c.in-Some.members.entries)
     (c.in-Ok.ensures.given.2 ∙ ap (option_map (λ m. entries_view m.entries)) c.in-Some.is)
 
-inputs_are : (c : goal.After-inputs_from)
+inputs_are : (c : goal.After-drop-members)
     → inputs_of c.args.wants.now (json_of c.args.json.now) ≡ inputs_in c.args.wants.now (members_kept c).0
 inputs_are c =
     let kept = members_kept c in
