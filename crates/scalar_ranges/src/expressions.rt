@@ -3,9 +3,10 @@ ghost use Rattle.src_tree.specs.Prelude.{expr_tree};
 ghost use Rattle.scalar_ranges.specs.Known.{is_below, is_within, natural, range_of};
 ghost use Rattle.scalar_ranges.specs.Ranges.{range_at};
 
+use crate::names::number_of;
 use crate::operations::operated;
 use crate::ranges::{Range, range_from};
-use src_tree::{Decl, Expr, number_of};
+use src_tree::{Decl, Expr};
 
 // The range of a number.
 fn natural(number: i64) -> Option<Range>

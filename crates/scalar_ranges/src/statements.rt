@@ -4,12 +4,12 @@ ghost use Rattle.scalar_ranges.specs.Known.{after_block, after_statement, forgot
 ghost use Rattle.scalar_ranges.specs.Ranges.{range_at};
 
 use crate::expressions::{range_at, range_of};
-use crate::names::label_at;
+use crate::names::{label_at, number_of};
 use crate::operations::counted;
 use crate::ranges::Range;
 use gr_base::Memory;
 use gr_word::Label;
-use src_tree::{Decl, Expr, Guard, Stmt, number_of};
+use src_tree::{Decl, Expr, Guard, Stmt};
 use std::alloc::Global;
 
 // Replaces what is known of a name.

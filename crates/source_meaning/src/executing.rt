@@ -3,12 +3,12 @@ ghost use Rattle.source_meaning.specs.Kept.{KeepsFit};
 ghost use Rattle.source_meaning.specs.Placed.{left_with, with_turns};
 ghost use Rattle.src_tree.specs.Prelude.{evaluated, guard_holds, run_of, run_of_block, expr_tree, test_of, statement_of, block_of_all};
 
-use crate::placing::place_statement;
+use crate::placing::{number_of, place_statement};
 use crate::running::run_step;
 use crate::stores::{element, scalar, set_element, set_scalar};
 use gr_base::Memory;
 use gr_word::{Inputs, apply, holds};
-use src_tree::{Decl, Expr, Guard, Stmt, number_of};
+use src_tree::{Decl, Expr, Guard, Stmt};
 use std::alloc::Global;
 
 // The value of an expression outside of all loops. It is computed once at most, and so its names are looked up here.

@@ -1,11 +1,24 @@
 ghost use Rattle.std.specs.Prelude.{◌≡◌, IfOk};
-ghost use Rattle.src_tree.specs.Prelude.{expr_tree, test_of, statement_of, block_of_all};
+ghost use Rattle.src_tree.specs.Prelude.{variable_number, expr_tree, test_of, statement_of, block_of_all};
 ghost use Rattle.source_meaning.specs.Placed.{placed_tree, placed_test, placed_statement, placed_block, placed_of, placed_check, action_of, actions_of_all};
 
 use crate::placed::{Check, Step, Term};
 use gr_base::Memory;
-use src_tree::{Decl, Expr, Guard, Stmt, number_of};
+use src_tree::{Decl, Expr, Guard, Stmt};
 use std::alloc::Global;
+
+// The number of a name's variable, or the number of declarations if the name isn't declared. The declarations are
+// searched one by one: there are at most 256, and a program has at most 8,192 names.
+pub(crate) fn number_of(decls: &[Decl], name: &[u8]) -> usize
+    ensures { result ≡ variable_number decls.now name.now }
+{
+    for (i, decl) in decls.iter().enumerate() {
+        if name == decl.name.bytes() {
+            return i;
+        }
+    }
+    decls.len()
+}
 
 fn place_expression(alloc: Global, decls: &[Decl], e: &Expr) -> Result<Term, Memory>
     ensures { IfOk result (λ term. placed_of term ≡ placed_tree decls.now (expr_tree e.now)) }

@@ -18,6 +18,6 @@ pub mod trees;
 pub use faults::{TypeError, Which};
 pub use heights::height;
 pub use labels::{higher, label_of};
-pub use names::{Names, kind_at, label_at, number_of, shape_of};
+pub use names::{Names, kind_at, label_at, shape_of};
 pub use printing::print;
 pub use trees::{Decl, Expr, Guard, Program, Stmt};

@@ -2,9 +2,7 @@ ghost use Rattle.std.specs.Prelude.{◌≡◌};
 ghost use Rattle.gr_base.specs.Prelude.{found_under};
 ghost use Rattle.src_tree.specs.Contexts.{shape_of};
 ghost use Rattle.src_tree.specs.Labels.{label_at};
-ghost use Rattle.src_tree.specs.Meaning.{variable_number};
 
-use crate::trees::Decl;
 use gr_word::{Label, Shape};
 use std::collections::BTreeMap;
 
@@ -36,17 +34,4 @@ pub fn label_at<'a>(names: &Names<'a>, name: &'a [u8]) -> Label
         None => Label::Public,
         Some(kind) => kind.0,
     }
-}
-
-/// The number of a name's variable, or the number of declarations if the name isn't declared. The declarations are
-/// searched one by one: there are at most 256, and a program has at most 8,192 names.
-pub fn number_of(decls: &[Decl], name: &[u8]) -> usize
-    ensures { result ≡ variable_number decls.now name.now }
-{
-    for (i, decl) in decls.iter().enumerate() {
-        if name == decl.name.bytes() {
-            return i;
-        }
-    }
-    decls.len()
 }

@@ -1,6 +1,0 @@
-use Rattle.std.proofs.Common.{◌≡◌, ◌+◌, drop}
-use Rattle.src_tree.specs.Meaning.{variable_number}
-use Rattle.src_tree.proofs.names.number_of.Given as goal
-
-abbrev pub invariant-loop-i : goal.invariant-loop-i
-invariant-loop-i l = l.i + variable_number (drop l.i l.decls) l.name ≡ variable_number l.decls l.name
