@@ -130,11 +130,7 @@ pub(crate) fn look<'a>(names: &Names<'a>, e: &'a Expr) -> Shown
             let array = label_at(names, name.bytes());
             indexed(array, look(names, index))
         }
-        Expr::Bin(_, left, right) => {
-            let left = look(names, left);
-            let right = look(names, right);
-            both(left, right)
-        }
+        Expr::Bin(_, left, right) => both(look(names, left), look(names, right)),
     }
 }
 
@@ -143,9 +139,7 @@ pub(crate) fn look_at_guard<'a>(names: &Names<'a>, guard: &'a Guard) -> Shown
     ensures leaks { result.leaks ≡ (has_leaking_index (found_under names.now) (expr_tree guard.now.left)
         || has_leaking_index (found_under names.now) (expr_tree guard.now.right)) }
 {
-    let left = look(names, &guard.left);
-    let right = look(names, &guard.right);
-    both(left, right)
+    both(look(names, &guard.left), look(names, &guard.right))
 }
 
 // The label of the arms of a choice that is in code with a label.

@@ -1,10 +1,10 @@
-ghost use Rattle.std.specs.Prelude.{◌≡◌, ◌<◌, length, All, Some, None, if◌then◌else◌, IfOk, IfSome, IfNone};
+ghost use Rattle.std.specs.Prelude.{◌≡◌, ◌<◌, length, Some, None, if◌then◌else◌, IfOk, IfSome, IfNone};
 ghost use Rattle.lt_isa.specs.Prelude.{IsOffset};
 ghost use Rattle.trace_patterns.specs.Known.{Known as Labels};
 ghost use Rattle.trace_patterns.specs.Prelude.{claimed_at, ruling_at};
 ghost use Rattle.lt_checker.specs.ByPlace.{Effect as OneEffect, entered, on_entry, visited, falls_to, effect_of, effect_at, effect_from, NoneBelow, IsFirstFound};
 ghost use Rattle.lt_checker.specs.Effects.{ruled, on_entered, made, arrived, OffsetFits, WhereItOpens};
-ghost use Rattle.lt_checker.specs.Tables.{IsTableOf};
+ghost use Rattle.lt_checker.specs.Tables.{ServesNotes};
 ghost use Rattle.trace_patterns.specs.Rules as rule;
 
 use crate::effects::{Arrival, Effect, Entry, Refusal};
@@ -22,8 +22,7 @@ pub fn lowest_refusal(
     object: &Object,
     table: &[Option<u32>],
 ) -> Result<Option<Refusal>, Memory>
-    requires table { IsTableOf object.now.notes table.now }
-    requires notes { All (λ n. n.pc < length table.now) object.now.notes }
+    requires table { ServesNotes object.now.notes table.now }
     ensures none { IfOk result (λ found. IfNone found (NoneBelow object.now (length object.now.code))) }
     ensures lowest { IfOk result (λ found. IfSome found (λ r. IsFirstFound object.now r.pc r.reason)) }
 {
@@ -63,8 +62,7 @@ fn effect_from(
     arrival: Arrival,
     known: &mut Known,
 ) -> Result<Effect, Memory>
-    requires table { IsTableOf object.now.notes table.now }
-    requires notes { All (λ n. n.pc < length table.now) object.now.notes }
+    requires table { ServesNotes object.now.notes table.now }
     requires inside { place < length object.now.code }
     ensures { IfOk result (λ e. made e known.new ≡ effect_from object.now place (arrived arrival known.old)) }
 {
@@ -84,8 +82,7 @@ fn enter(
     arrival: Arrival,
     known: &mut Known,
 ) -> Entry
-    requires table { IsTableOf object.now.notes table.now }
-    requires notes { All (λ n. n.pc < length table.now) object.now.notes }
+    requires table { ServesNotes object.now.notes table.now }
     ensures { (go : Labels → OneEffect)
         → on_entered result known.new go
         ≡ visited (arrived arrival known.old) (λ reached. on_entry (entered (claimed_at object.now place) reached) go) }
@@ -131,8 +128,7 @@ fn effect_at(
     place: usize,
     known: &mut Known,
 ) -> Result<Effect, Memory>
-    requires table { IsTableOf object.now.notes table.now }
-    requires notes { All (λ n. n.pc < length table.now) object.now.notes }
+    requires table { ServesNotes object.now.notes table.now }
     requires inside { place < length object.now.code }
     ensures { IfOk result (λ e. made e known.new ≡ effect_at object.now place known.old) }
 {
@@ -147,8 +143,7 @@ fn effect_at(
 // The ruling on a place. If the place falls through, `known` becomes what is known at the next place.
 #[tactic(auto, unfolding(trace_patterns::specs::Rules::ruling_at))]
 fn rule_at(object: &Object, table: &[Option<u32>], place: usize, known: &mut Known) -> Ruling
-    requires table { IsTableOf object.now.notes table.now }
-    requires notes { All (λ n. n.pc < length table.now) object.now.notes }
+    requires table { ServesNotes object.now.notes table.now }
     requires inside { place < length object.now.code }
     ensures rule { ruled result known.new ≡ ruling_at object.now place known.old }
     ensures offset { OffsetFits (ruled result known.new) }

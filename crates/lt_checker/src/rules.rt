@@ -1,8 +1,8 @@
-ghost use Rattle.std.specs.Prelude.{◌≡◌, ◌<◌, ◌||◌, ◌&&◌, length, All, not, if◌then◌else◌};
+ghost use Rattle.std.specs.Prelude.{◌≡◌, ◌<◌, ◌||◌, ◌&&◌, length, not, if◌then◌else◌};
 ghost use Rattle.lt_isa.specs.Prelude.{is_ram, InstrFits};
 ghost use Rattle.trace_patterns.specs.Prelude.{is_secret, bank_known, set_secret, set_bank, shows_block, claimed_at, ruling_of, jumped, at_bank, refused_if};
 ghost use Rattle.lt_checker.specs.Effects.{ruled, WhereItOpens};
-ghost use Rattle.lt_checker.specs.Tables.{IsTableOf};
+ghost use Rattle.lt_checker.specs.Tables.{ServesNotes};
 ghost use Rattle.trace_patterns.specs.Rules as rule;
 
 use crate::tables;
@@ -33,8 +33,7 @@ pub fn rule_of(
     known: &mut Known,
     instr: Instr,
 ) -> Ruling
-    requires table { IsTableOf object.now.notes table.now }
-    requires notes { All (λ n. n.pc < length table.now) object.now.notes }
+    requires table { ServesNotes object.now.notes table.now }
     requires inside { place < length object.now.code }
     requires operands { InstrFits (length object.now.banks) instr }
     requires banks { length object.now.banks < 255 }
@@ -162,8 +161,7 @@ fn jumped(
     known: &Known,
     falls: bool,
 ) -> Ruling
-    requires table { IsTableOf object.now.notes table.now }
-    requires notes { All (λ n. n.pc < length table.now) object.now.notes }
+    requires table { ServesNotes object.now.notes table.now }
     ensures { ruled result known.now
         ≡ jumped object.now target known.now (if falls then rule.Falls known.now else rule.Leaves) }
 {
@@ -184,8 +182,7 @@ fn jumped(
 /// What the note at a place of the code claims, or `None` if the place has no note.
 #[tactic(auto, unfolding(trace_patterns::specs::Rules::claimed_at))]
 pub fn claimed_at(object: &Object, table: &[Option<u32>], place: usize) -> Option<Known>
-    requires table { IsTableOf object.now.notes table.now }
-    requires notes { All (λ n. n.pc < length table.now) object.now.notes }
+    requires table { ServesNotes object.now.notes table.now }
     ensures { result ≡ claimed_at object.now place }
 {
     tables::claimed_at(object.notes(), table, place)

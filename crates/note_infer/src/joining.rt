@@ -144,15 +144,6 @@ fn branch_of(instr: Instr) -> Option<Branch>
 {
     match instr {
         Instr::Br { ra, rb, offset, .. } => Some(Branch { ra, rb, offset }),
-        Instr::Nop => None,
-        Instr::Halt => None,
-        Instr::Li { .. } => None,
-        Instr::Alu { .. } => None,
-        Instr::Ldb { .. } => None,
-        Instr::Stb { .. } => None,
-        Instr::Idb { .. } => None,
-        Instr::Ldw { .. } => None,
-        Instr::Stw { .. } => None,
-        Instr::Jmp { .. } => None,
+        _ => None,
     }
 }

@@ -220,16 +220,7 @@ fn slot_read(instr: Instr) -> Option<u8>
 {
     match instr {
         Instr::Idb { slot, .. } => Some(slot),
-        Instr::Nop => None,
-        Instr::Halt => None,
-        Instr::Li { .. } => None,
-        Instr::Alu { .. } => None,
-        Instr::Ldb { .. } => None,
-        Instr::Stb { .. } => None,
-        Instr::Ldw { .. } => None,
-        Instr::Stw { .. } => None,
-        Instr::Jmp { .. } => None,
-        Instr::Br { .. } => None,
+        _ => None,
     }
 }
 

@@ -61,25 +61,12 @@ fn tell_from(object: &Object, last: &mut Vec<u32>, before: &mut Vec<u32>, place:
     requires below { OriginsBelow object.now place last.old.items before.old.items }
     ensures { OriginsBelow object.now (place + 1) last.new.items before.new.items }
 {
+    let at = place as usize;
     match next_step_of(instr) {
         NextStep::Goes => {}
         NextStep::Halts => {}
-        NextStep::Jumps(offset) => {
-            tell(
-                last,
-                before,
-                place,
-                target_of(object, place as usize, offset),
-            )
-        }
-        NextStep::Branches(offset) => {
-            tell(
-                last,
-                before,
-                place,
-                target_of(object, place as usize, offset),
-            )
-        }
+        NextStep::Jumps(offset) => tell(last, before, place, target_of(object, at, offset)),
+        NextStep::Branches(offset) => tell(last, before, place, target_of(object, at, offset)),
     }
 }
 

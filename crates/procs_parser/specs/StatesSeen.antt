@@ -1,11 +1,13 @@
 -- For private clauses only: the parser's own types as the proofs see them.
 use Rattle.std.specs.Prelude.{map, Option, Some, None}
+use Rattle.src_lexer.specs.declared.tokens.TokenKind.{TokenKind}
+use Rattle.src_parser.specs.Grammar.{limits}
 use Rattle.src_parser.specs.Seen.{among, heading_of, outers_of, phase_of, reading_of}
 use Rattle.src_parser.specs.Tokenwise.{Advance}
 use Rattle.src_procs.specs.declared.trees.PStmt.{PStmt}
 use Rattle.src_procs.specs.Seen.{statement_of, trees_of, parameter_of, procedure_of}
 use Rattle.procs_parser.specs.Calls.{CallPhase, Opened, Argument, Called, CallState, InCall, CallStep, Still, Done}
-use Rattle.procs_parser.specs.FileAdvances.{HeadPhase, Opening, NoneYet, OneMore, ScalarLabelled, ScalarTyped, ArrayTyped, ArrayTitled, ArrayClosing, Behind, AllRead, LocalFresh, LocalLabelled, LocalTyped, LocalTitled, Front, Outside, InProcedure, ParserState, Between, Declaring, Naming, Doing, Calling}
+use Rattle.procs_parser.specs.FileAdvances.{HeadPhase, Opening, NoneYet, OneMore, ScalarLabelled, ScalarTyped, ArrayTyped, ArrayTitled, ArrayClosing, Behind, AllRead, LocalFresh, LocalLabelled, LocalTyped, LocalTitled, Front, Outside, InProcedure, ParserState, Between, Declaring, Naming, Doing, Calling, names_next}
 use Rattle.procs_parser.specs.declared.states.CallPhase as call_phases
 use Rattle.procs_parser.specs.declared.states.CallPhase.TheVariants as call_phase
 use Rattle.procs_parser.specs.declared.states.CallAdvance as call_advances
@@ -68,6 +70,10 @@ doing f b (mode.Calling name arguments p) =
 
 abbrev pub named : heads.Head → HeadPhase → ParserState
 named h phase = Naming h.decls.items (map procedure_of h.procs.items) h.name phase
+
+-- the next token of a head, or of its locals
+abbrev pub head_next : heads.Head → HeadPhase → TokenKind → Advance ParserState
+head_next h phase = names_next limits h.decls.items (map procedure_of h.procs.items) h.name phase
 
 abbrev pub start_of : starts.Start → ParserState
 start_of (start.Between decls) = Between decls.items

@@ -1,8 +1,8 @@
 ghost use Rattle.std.specs.Prelude.{◌≡◌, ◌++◌, ◌∷◌, [], IfOk, None, map};
 ghost use Rattle.src_parser.specs.Prelude.{limits, Goes, declared};
-ghost use Rattle.procs_parser.specs.FileAdvances.{names_next, parameter_begins, Behind, ScalarTyped, ArrayTyped, ArrayTitled, NoneYet, LocalFresh, LocalTyped};
+ghost use Rattle.procs_parser.specs.FileAdvances.{parameter_begins, Behind, ScalarTyped, ArrayTyped, ArrayTitled, NoneYet, LocalFresh, LocalTyped};
 ghost use Rattle.src_procs.specs.Prelude.{parameter_of, procedure_of};
-ghost use Rattle.procs_parser.specs.StatesSeen.{advance_of, state_of, named, head_phase_of};
+ghost use Rattle.procs_parser.specs.StatesSeen.{advance_of, state_of, named, head_next, head_phase_of};
 
 use crate::declarations::start_statements;
 use crate::states::{FileAdvance, Front, Head, HeadPhase, ParserState, Start};
@@ -58,8 +58,7 @@ fn parameter(
 // The first token after the bracket of a head.
 fn first(alloc: Global, state: &mut ParserState, head: Head, kind: &TokenKind) -> FileAdvance
     ensures { advance_of result (state_of state.new)
-        ≡ names_next limits head.decls.items (map procedure_of head.procs.items) head.name NoneYet
-        kind.now }
+        ≡ head_next head NoneYet kind.now }
 {
     match kind {
         TokenKind::RParen => goes(state, head, HeadPhase::AllRead(Vec::new(alloc))),
@@ -91,8 +90,7 @@ fn scalar_name(
     kind: &TokenKind,
 ) -> Result<FileAdvance, Memory>
     ensures { IfOk result (λ t. advance_of t (state_of state.new)
-        ≡ names_next limits head.decls.items (map procedure_of head.procs.items)
-        head.name (ScalarTyped (map parameter_of params.items) label) kind.now) }
+        ≡ head_next head (ScalarTyped (map parameter_of params.items) label) kind.now) }
 {
     match kind {
         TokenKind::Word(name) => {
@@ -112,8 +110,7 @@ fn array_name(
     kind: &TokenKind,
 ) -> Result<FileAdvance, Memory>
     ensures { IfOk result (λ t. advance_of t (state_of state.new)
-        ≡ names_next limits head.decls.items (map procedure_of head.procs.items)
-        head.name (ArrayTyped (map parameter_of params.items)) kind.now) }
+        ≡ head_next head (ArrayTyped (map parameter_of params.items)) kind.now) }
 {
     match kind {
         TokenKind::Word(name) => {
@@ -134,8 +131,7 @@ fn start(
     kind: &TokenKind,
 ) -> Result<FileAdvance, Memory>
     ensures { IfOk result (λ t. advance_of t (state_of state.new)
-        ≡ names_next limits head.decls.items (map procedure_of head.procs.items)
-        head.name (LocalFresh (map parameter_of params.items) locals.items) kind.now) }
+        ≡ head_next head (LocalFresh (map parameter_of params.items) locals.items) kind.now) }
 {
     match kind {
         TokenKind::Public => Ok(goes(
@@ -163,8 +159,7 @@ fn local_name(
     kind: &TokenKind,
 ) -> Result<FileAdvance, Memory>
     ensures { IfOk result (λ t. advance_of t (state_of state.new)
-        ≡ names_next limits head.decls.items (map procedure_of head.procs.items)
-        head.name (LocalTyped (map parameter_of params.items) locals.items label) kind.now) }
+        ≡ head_next head (LocalTyped (map parameter_of params.items) locals.items label) kind.now) }
 {
     match kind {
         TokenKind::Word(name) => {
@@ -209,8 +204,7 @@ pub(crate) fn name_next(
     kind: &TokenKind,
 ) -> Result<FileAdvance, Memory>
     ensures { IfOk result (λ t. advance_of t (state_of state.new)
-        ≡ names_next limits head.decls.items (map procedure_of head.procs.items)
-        head.name (head_phase_of phase) kind.now) }
+        ≡ head_next head (head_phase_of phase) kind.now) }
 {
     match phase {
         HeadPhase::Opening => match kind {

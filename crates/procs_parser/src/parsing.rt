@@ -180,10 +180,8 @@ pub struct FileReader {
 
 impl TokenReader for FileReader {
     ghost use Rattle.std.specs.Prelude.{[]};
-    ghost use Rattle.src_parser.specs.Grammar.{limits};
-    ghost use Rattle.src_parser.specs.Readers.{ReadsTo};
-    ghost use Rattle.src_parser.specs.Refusals.{token_kinds};
-    ghost use Rattle.src_procs.specs.Seen.{file_of};
+    ghost use Rattle.src_parser.specs.Prelude.{limits, ReadsTo, token_kinds};
+    ghost use Rattle.src_procs.specs.Prelude.{file_of};
     ghost use Rattle.procs_parser.specs.FileAdvances.{taken, Between};
     ghost use Rattle.procs_parser.specs.FileGrammar.{SpellsFile};
     ghost use Rattle.procs_parser.specs.FileRefusals.{ExplainsFile};

@@ -111,16 +111,8 @@ pub(crate) fn folded_guard(alloc: Global, guard: &Guard) -> Result<Guard, Memory
     ensures folded { IfOk result (λ g. test_of g ≡ folded_test (test_of guard.now)) }
     ensures numbers { OnOk result (TestNumbersFit (test_of guard.now)) }
 {
+    let cmp = guard.cmp;
     let left = folded(alloc, &guard.left)?;
-    match folded(alloc, &guard.right) {
-        Ok(right) => Ok(Guard {
-            cmp: guard.cmp,
-            left,
-            right,
-        }),
-        Err(error) => {
-            drop(left);
-            Err(error)
-        }
-    }
+    let right = folded(alloc, &guard.right)?;
+    Ok(Guard { cmp, left, right })
 }

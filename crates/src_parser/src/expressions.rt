@@ -1,7 +1,7 @@
 ghost use Rattle.std.specs.Prelude.{◌≡◌, ◌<◌, ◌+◌, ◌-◌, ◌^◌, ◌∷◌, [], IfOk, pos, option_map};
 ghost use Rattle.src_tree.specs.Prelude.{expr_tree, Operation, Number, Element};
 ghost use Rattle.gr_word.specs.declared.operations.Op.TheVariants.{Sub};
-ghost use Rattle.src_lexer.specs.declared.tokens.TokenKind.TheVariants.{Num, LParen, RParen, LBracket, RBracket, Minus};
+ghost use Rattle.src_lexer.specs.declared.tokens.TokenKind.TheVariants.{Num, LParen, LBracket, Minus};
 ghost use Rattle.src_parser.specs.Grammar.{limits, level_of, operator_of};
 ghost use Rattle.src_parser.specs.Operands.{tree_joined, wanting, pending, closing, having, naming, reads, whole, Moves, Stops, At, Joins, Wanted, Given};
 ghost use Rattle.src_parser.specs.Seen.{joint_of, stack_of, step_of, reading_of, frame_of};
@@ -224,65 +224,10 @@ fn stay(
     Ok(TokenStep::Stops)
 }
 
-// Reads a `)` after an operand.
-fn close_bracket(reading: &mut Reading, joint: Joint) -> Result<TokenStep, Memory>
-    ensures { IfOk result (λ s. step_of s (reading_of reading.new) ≡ closing reading.old.used RParen (joint_of joint)) }
-{
-    let Joint {
-        mut stack,
-        tree,
-        depth,
-    } = joint;
-    match stack.pop() {
-        None => {
-            give(reading, stack, depth, tree);
-            Ok(TokenStep::Stops)
-        }
-        Some(Waiting::Open(before)) => {
-            give(reading, stack, before, tree);
-            Ok(TokenStep::Moves)
-        }
-        Some(Waiting::Index(before, name)) => {
-            stay(reading, stack, Waiting::Index(before, name), depth, tree)
-        }
-        Some(Waiting::Sign(before)) => stay(reading, stack, Waiting::Sign(before), depth, tree),
-        Some(Waiting::Pending(left, op)) => {
-            stay(reading, stack, Waiting::Pending(left, op), depth, tree)
-        }
-    }
-}
-
 fn element(alloc: Global, name: Name, index: Expr) -> Result<Expr, Memory>
     ensures { IfOk result (λ e. expr_tree e ≡ Element name (expr_tree index)) }
 {
     Ok(Expr::Item(name, Box::new(alloc, index)?))
-}
-
-// Reads a `]` after an operand.
-fn close_index(alloc: Global, reading: &mut Reading, joint: Joint) -> Result<TokenStep, Memory>
-    ensures { IfOk result (λ s. step_of s (reading_of reading.new)
-        ≡ closing reading.old.used RBracket (joint_of joint)) }
-{
-    let Joint {
-        mut stack,
-        tree,
-        depth,
-    } = joint;
-    match stack.pop() {
-        None => {
-            give(reading, stack, depth, tree);
-            Ok(TokenStep::Stops)
-        }
-        Some(Waiting::Index(before, name)) => {
-            give(reading, stack, before, element(alloc, name, tree)?);
-            Ok(TokenStep::Moves)
-        }
-        Some(Waiting::Open(before)) => stay(reading, stack, Waiting::Open(before), depth, tree),
-        Some(Waiting::Sign(before)) => stay(reading, stack, Waiting::Sign(before), depth, tree),
-        Some(Waiting::Pending(left, op)) => {
-            stay(reading, stack, Waiting::Pending(left, op), depth, tree)
-        }
-    }
 }
 
 // Reads a token after an operand that isn't an operator.
@@ -295,13 +240,33 @@ fn close(
     ensures { IfOk result (λ s. step_of s (reading_of reading.new)
         ≡ closing reading.old.used kind.now (joint_of joint)) }
 {
-    match kind {
-        TokenKind::RParen => close_bracket(reading, joint),
-        TokenKind::RBracket => close_index(alloc, reading, joint),
-        _ => {
-            let Joint { stack, tree, depth } = joint;
+    let Joint {
+        mut stack,
+        tree,
+        depth,
+    } = joint;
+    match stack.pop() {
+        None => {
             give(reading, stack, depth, tree);
             Ok(TokenStep::Stops)
+        }
+        Some(Waiting::Open(before)) => match kind {
+            TokenKind::RParen => {
+                give(reading, stack, before, tree);
+                Ok(TokenStep::Moves)
+            }
+            _ => stay(reading, stack, Waiting::Open(before), depth, tree),
+        },
+        Some(Waiting::Index(before, name)) => match kind {
+            TokenKind::RBracket => {
+                give(reading, stack, before, element(alloc, name, tree)?);
+                Ok(TokenStep::Moves)
+            }
+            _ => stay(reading, stack, Waiting::Index(before, name), depth, tree),
+        },
+        Some(Waiting::Sign(before)) => stay(reading, stack, Waiting::Sign(before), depth, tree),
+        Some(Waiting::Pending(left, op)) => {
+            stay(reading, stack, Waiting::Pending(left, op), depth, tree)
         }
     }
 }
