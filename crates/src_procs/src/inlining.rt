@@ -150,7 +150,8 @@ fn finish(alloc: Global, decls: Vec<Decl>, made: Made) -> Result<Program, Memory
 /// new variables. The errors come in the order of [`InlineError`]'s variants, those of procedures procedure by
 /// procedure, then those of calls call by call, and the first is returned. `Memory` says nothing about the file.
 ///
-/// The expressions of the file's own statements are moved into the program; those of procedures are copied at each call.
+/// The expressions of the file's own statements, and the arguments of its own calls, are moved into the program. Those of
+/// procedures are copied at each call.
 pub fn inline(alloc: Global, f: ProcFile) -> Result<Program, InlineError>
     requires plain { ArePlain f.decls.items }
     ensures inlined { IfOk result (λ p. source_of p ≡ inlined_file (file_of f)) }
