@@ -14,5 +14,5 @@ pub record IsTableOf (notes : List Note) (table : List (Option ℕ)) : Type 0 wh
 
 -- the table of an object's notes, with an entry for each place that has a note
 pub record ServesNotes (notes : List Note) (table : List (Option ℕ)) : Type 0 where
-  pub table : IsTableOf notes table
+  pub is : IsTableOf notes table
   pub within : All (λ n. n.pc < length table) notes
