@@ -137,21 +137,25 @@ module _ (o : Parts) (to : ℕ) (low : to + 2 < 19) where
 
   -- A comparison of a public index with the length, and the remainder if it isn't below it.
   module _ (h : Home) (k : Known) (sized : length k.secret ≡ 32) (public : is_secret k to ≡ false) where
-    -- what is known at the branch
+    -- what is known after the first instruction, after the sum, and at the branch
+    abbrev with_least : Known
+    with_least = set_secret k (to + 1) false
+
+    abbrev sum_label : Bool
+    sum_label = is_secret with_least (to + 1) || is_secret with_least to
+
+    abbrev with_sum : Known
+    with_sum = set_secret with_least (to + 1) sum_label
+
     pub compared_known : Known
-    compared_known =
-        let one = set_secret k (to + 1) false in
-        let two = set_secret one (to + 1) (is_secret one (to + 1) || is_secret one to) in
-        set_secret two (to + 2) false
+    compared_known = set_secret with_sum (to + 2) false
 
     -- the lower registers are as before, and so is the index
     pub compared_same : SameBelow (to + 1) k compared_known
     unfolding compared_known
     compared_same =
-        let one = set_secret k (to + 1) false in
-        let two = set_secret one (to + 1) (is_secret one (to + 1) || is_secret one to) in
-        same-set (to + 1) k two (to + 2) false (omega arith) (omega arith)
-        (same-set (to + 1) k one (to + 1) _ (omega arith) (omega arith)
+        same-set (to + 1) k with_sum (to + 2) false (omega arith) (omega arith)
+        (same-set (to + 1) k with_least (to + 1) _ (omega arith) (omega arith)
         (same-set (to + 1) k k (to + 1) false (omega arith) (omega arith) (same-itself (to + 1) k)))
 
     pub compared_word : is_secret compared_known to ≡ false
@@ -161,27 +165,21 @@ module _ (o : Parts) (to : ℕ) (low : to + 2 < 19) where
     compared_sum : is_secret compared_known (to + 1) ≡ false
     unfolding compared_known
     compared_sum =
-        let one = set_secret k (to + 1) false in
-        let sum = is_secret one (to + 1) || is_secret one to in
-        let two = set_secret one (to + 1) sum in
-        let size : length one.secret ≡ 32 =
+        let size : length with_least.secret ≡ 32 =
         (same-set to k k (to + 1) false (omega arith) (omega arith) (same-itself to k)).sized ∙ sized in
-        secret-other two (to + 2) (to + 1) false (λ e. absurd (omega arith))
-        ∙ secret-same one (to + 1) sum (omega arith)
-        ∙ ap (λ (b : Bool). b || is_secret one to) (secret-same k (to + 1) false (omega arith))
+        secret-other with_sum (to + 2) (to + 1) false (λ e. absurd (omega arith))
+        ∙ secret-same with_least (to + 1) sum_label (omega arith)
+        ∙ ap (λ (b : Bool). b || is_secret with_least to) (secret-same k (to + 1) false (omega arith))
         ∙ secret-other k (to + 1) to false (λ e. absurd (omega arith))
         ∙ public
 
     compared_length : is_secret compared_known (to + 2) ≡ false
     unfolding compared_known
     compared_length =
-        let one = set_secret k (to + 1) false in
-        let sum = is_secret one (to + 1) || is_secret one to in
-        let two = set_secret one (to + 1) sum in
         let first = same-set to k k (to + 1) false (omega arith) (omega arith) (same-itself to k) in
-        let second = same-set to k one (to + 1) sum (omega arith) (omega arith) first in
-        let size : length two.secret ≡ 32 = second.sized ∙ sized in
-        secret-same two (to + 2) false (omega arith)
+        let second = same-set to k with_least (to + 1) sum_label (omega arith) (omega arith) first in
+        let size : length with_sum.secret ≡ 32 = second.sized ∙ sized in
+        secret-same with_sum (to + 2) false (omega arith)
 
     compared_sized : length compared_known.secret ≡ 32
     compared_sized = compared_same.sized ∙ sized

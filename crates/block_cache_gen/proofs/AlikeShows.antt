@@ -179,20 +179,22 @@ stored-alike f g h None None bound found fixed same = ap (shows_among f) same
 stored-alike f g h (Some y) None bound found fixed same = absurd (let e : true ≡ false = fixed in cc)
 stored-alike f g h None (Some z) bound found fixed same = absurd (let e : false ≡ true = fixed in cc)
 
+-- what is the same for any register goes by whether one holds the value
+by_whether-held : {A : Type 0} (shows : Option ℕ → A) → ((r q : ℕ) → shows (Some r) ≡ shows (Some q))
+    → (one other : Option ℕ) → is_some one ≡ is_some other → shows one ≡ shows other
+by_whether-held shows all (Some r) (Some q) same = all r q
+by_whether-held shows all None None same = refl
+by_whether-held shows all (Some r) None same = absurd (let e : true ≡ false = same in cc)
+by_whether-held shows all None (Some q) same = absurd (let e : false ≡ true = same in cc)
+
 -- so are two scalars, and the writes to them, if registers hold both or neither
 scalar-alike : (f : Setting) (one other : Option ℕ) → is_some one ≡ is_some other
     → scalar_shows f one ≡ scalar_shows f other
-scalar-alike f (Some r) (Some q) same = refl
-scalar-alike f None None same = refl
-scalar-alike f (Some r) None same = absurd (let e : true ≡ false = same in cc)
-scalar-alike f None (Some q) same = absurd (let e : false ≡ true = same in cc)
+scalar-alike f one other same = by_whether-held (scalar_shows f) (λ r q. refl) one other same
 
 write-alike : (f : Setting) (one other : Option ℕ) → is_some one ≡ is_some other
     → write_shows f one ≡ write_shows f other
-write-alike f (Some r) (Some q) same = refl
-write-alike f None None same = refl
-write-alike f (Some r) None same = absurd (let e : true ≡ false = same in cc)
-write-alike f None (Some q) same = absurd (let e : false ≡ true = same in cc)
+write-alike f one other same = by_whether-held (write_shows f) (λ r q. refl) one other same
 
 -- registers hold alike expressions for the whole run, or neither
 alike-held : (f : Setting) (a b : Tree) → Alike f a b → is_some (operand f a) ≡ is_some (operand f b)

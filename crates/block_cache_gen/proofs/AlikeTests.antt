@@ -309,6 +309,16 @@ module _ (f : Setting) where
       (((home_of f x).bank == 1) && (bytes_eq x y && is_same i j)) parts.1)
   pair-true _ _ held = absurd (let f : false ≡ true = held in cc)
 
+  -- assignments to elements that are in step
+  stepped-own : (x y : List ℕ) (i j e g : Tree) → in_step f (home_of f x) (home_of f y) i j ≡ true → Alike f i j
+      → Alike f e g → is_pair f (SetElement x i e) (SetElement y j g) ≡ true
+  stepped-own x y i j e g stepped index value =
+      let one = in_step f (home_of f x) (home_of f y) i j && is_alike f i j in
+      let other = ((home_of f x).bank == 1) && (bytes_eq x y && is_same i j) in
+      and_from (is_alike f e g) (one || other) (alike-own e g value)
+      (or_left one other
+      (and_from (in_step f (home_of f x) (home_of f y) i j) (is_alike f i j) stepped (alike-own i j index)))
+
   pair-own : (s t : Statement) → Pair f s t → is_pair f s t ≡ true
   pair-own s t (ToScalars x y e g one both alike) =
       and_from (held_alike f (Variable x) (Variable y)) (straight_alike f x y e g && is_alike f e g)
@@ -316,23 +326,9 @@ module _ (f : Setting) where
       (and_from (straight_alike f x y e g) (is_alike f e g)
       (kinds-own (is_some (straight f x e)) (is_some (straight f y g)) both) (alike-own e g alike))
   pair-own s t (ToOblivious x y i j e g one index value) =
-      and_from (is_alike f e g)
-      ((in_step f (home_of f x) (home_of f y) i j && is_alike f i j)
-      || (((home_of f x).bank == 1) && (bytes_eq x y && is_same i j)))
-      (alike-own e g value)
-      (or_left (in_step f (home_of f x) (home_of f y) i j && is_alike f i j)
-      (((home_of f x).bank == 1) && (bytes_eq x y && is_same i j))
-      (and_from (in_step f (home_of f x) (home_of f y) i j) (is_alike f i j)
-      ((step_decides x y i j).1 (inl one)) (alike-own i j index)))
+      stepped-own x y i j e g ((step_decides x y i j).1 (inl one)) index value
   pair-own s t (ToResidents x y i j e g one index value) =
-      and_from (is_alike f e g)
-      ((in_step f (home_of f x) (home_of f y) i j && is_alike f i j)
-      || (((home_of f x).bank == 1) && (bytes_eq x y && is_same i j)))
-      (alike-own e g value)
-      (or_left (in_step f (home_of f x) (home_of f y) i j && is_alike f i j)
-      (((home_of f x).bank == 1) && (bytes_eq x y && is_same i j))
-      (and_from (in_step f (home_of f x) (home_of f y) i j) (is_alike f i j)
-      ((step_decides x y i j).1 (inr one)) (alike-own i j index)))
+      stepped-own x y i j e g ((step_decides x y i j).1 (inr one)) index value
   pair-own s t (ToSame x i e g encrypted value) =
       and_from (is_alike f e g)
       ((in_step f (home_of f x) (home_of f x) i i && is_alike f i i)

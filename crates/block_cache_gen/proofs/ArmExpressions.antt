@@ -521,13 +521,15 @@ module _ (o : Parts) (f : Setting) (homes : HasHomes o f) (depth : ℕ) where
         (operand_part q (shows_of_expr f i)) (slots_of_expr f i) refl carries first inside
         (index-apart near h i to (omega (arith, inside))) (index-own near h i to) used known)
 
+    -- the code of an expression leaves its tree
+    abbrev LeavesExpr : SymState → ℕ → Tree → Type 0
+    LeavesExpr s to e =
+        LeavesTree o f depth s (expr_code f mode to e) (shows_of_expr f e) to (tree_of_expr f e) (slots_of_expr f e)
+
     -- an operation on two operands
     operation-leaves : (op : Op) (a b : Tree) → TypedTree (context_of f.decls) a → TypedTree (context_of f.decls) b
         → (s : SymState) (to : ℕ) → to + 2 < 19 → CarriesInArm f s
-        → LeavesTree o f depth s (expr_code f mode to a) (shows_of_expr f a) to (tree_of_expr f a) (slots_of_expr f a)
-        → ((t : SymState) → CarriesInArm f t
-        → LeavesTree o f depth t (expr_code f mode (to + 1) b) (shows_of_expr f b) (to + 1) (tree_of_expr f b)
-        (slots_of_expr f b))
+        → LeavesExpr s to a → ((t : SymState) → CarriesInArm f t → LeavesExpr t (to + 1) b)
         → LeavesTree o f depth s
         (operand_part (operand f a) (expr_code f mode to a)
         ++ (operand_part (operand f b) (expr_code f mode (to + 1) b)
@@ -563,10 +565,7 @@ module _ (o : Parts) (f : Setting) (homes : HasHomes o f) (depth : ℕ) where
     -- an operation, or the steps that replace it
     either-leaves : (op : Op) (a b : Tree) → TypedTree (context_of f.decls) a → TypedTree (context_of f.decls) b
         → (s : SymState) (to : ℕ) → to + 2 < 19 → CarriesInArm f s
-        → LeavesTree o f depth s (expr_code f mode to a) (shows_of_expr f a) to (tree_of_expr f a) (slots_of_expr f a)
-        → ((t : SymState) → CarriesInArm f t
-        → LeavesTree o f depth t (expr_code f mode (to + 1) b) (shows_of_expr f b) (to + 1) (tree_of_expr f b)
-        (slots_of_expr f b))
+        → LeavesExpr s to a → ((t : SymState) → CarriesInArm f t → LeavesExpr t (to + 1) b)
         → (found : Option (List Step)) → steps_at f op b ≡ found
         → LeavesTree o f depth s
         (operand_part (operand_unless (is_some found) (operand f a)) (expr_code f mode to a)

@@ -16,7 +16,7 @@ use Rattle.block_cache_gen.specs.declared.frames.Mode.{Mode}
 use Rattle.block_cache_gen.specs.declared.indexes.Numbering.{Numbering}
 use Rattle.block_cache_gen.specs.declared.indexes.Numbering.TheVariants.{Reduced}
 use Rattle.block_cache_gen.specs.declared.frames.Mode.TheVariants.{Public, Real, Mirrored}
-use Rattle.block_cache_gen.specs.Prelude.{Home, Setting, home_of, access_by, applied_code, found_by, is_cached, is_within_home, numbering, numbering_by, compared_code, least_word, numbered_code, numbered_register, offset_code, shift_code, fixed_code, load_code, skips, access_code, indexed_code, index_operand, fixed_index, operand, operand_part, operand_register, left_operand, operation_code, steps_at, expr_code, read_code, expr_notes, operand_mask, operation_notes, index_notes, compared_notes, loaded_notes, load_notes, access_mask, unmarked, note_of, Appended, no_notes, notes_in, access_notes, EmitsOperation, EmitsOperand, EmitsExpr, EmitsAccess, EmitsFound}
+use Rattle.block_cache_gen.specs.Prelude.{Home, Setting, home_of, access_by, applied_code, found_by, is_cached, is_within_home, numbering, numbering_by, compared_code, least_word, numbered_code, numbered_register, offset_code, shift_code, fixed_code, load_code, skips, access_code, indexed_code, index_operand, fixed_index, operand, operand_part, operand_register, left_operand, operation_code, steps_at, expr_code, read_code, expr_notes, operand_mask, operation_notes, index_notes, compared_notes, loaded_notes, load_notes, access_mask, unmarked, note_of, Appended, no_notes, notes_in, access_notes, EmitsOperation, EmitsOperand, EmitsExpr, EmitsAccess, EmitsFixed, EmitsFound, EmitsLoad}
 use Rattle.block_cache_gen.proofs.Emitting.{appended_then, appended_as, appended_length, silent_behind, silent_before, notes_both, notes_by}
 use Rattle.block_cache_gen.proofs.HeldOperands.{operand-short}
 use Rattle.block_cache_gen.proofs.Sizes.{expr_code_short, offset_length}
@@ -66,23 +66,8 @@ access_as f mode h mask to i a c x =
     appended_as a c code code (λ place. notes_in mode (notes place (numbering f mode h i)))
     (λ place. notes_in mode (notes place (numbering f Public h i))) refl (λ place. notes_near mode f h i (notes place)) x
 
--- what the load of an access appends
-abbrev pub EmitsLoad : Setting → Mode → Home → (mask to : ℕ) → CodeBuf → CodeBuf → Type 0
-EmitsLoad f mode h mask to a b =
-    Appended a b (load_code (skips mode h) h to)
-    (λ place. notes_in mode
-    (loaded_notes false Reduced None f h mask to (place + length (load_code (skips Public h) h to))))
-
 further : (place : ℕ) (xs ys : List Instr) → place + length xs + length ys ≡ place + length (xs ++ ys)
 further place xs ys = add_assoc place (length xs) (length ys) ∙ ap (λ n. place + n) (sym (length-append xs ys))
-
--- the code of an access by a number
-abbrev pub EmitsFixed : Setting → Mode → Home → (mask to : ℕ) → ℤ → CodeBuf → CodeBuf → Type 0
-EmitsFixed f mode h mask to z a c =
-    Appended a c (access_by h.resident Reduced f mode h to to (Some z) [])
-    (λ place. notes_in mode
-    (loaded_notes h.resident Reduced (Some z) f h mask to
-    (place + length (access_by h.resident Reduced f Public h to to (Some z) []))))
 
 -- the pieces of an access by a number that loads its block
 pub fixed_loaded : (f : Setting) (mode : Mode) (h : Home) (mask to : ℕ) (z : ℤ) (a b c : CodeBuf)

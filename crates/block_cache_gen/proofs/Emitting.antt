@@ -19,6 +19,10 @@ grows_then a b c one two = record {
   notes = longer a.notes.items b.notes.items c.notes.items one.notes two.notes;
 }
 
+-- three pieces in sequence
+pub grows_thrice : (a b c d : CodeBuf) → CodeGrows a b → CodeGrows b c → CodeGrows c d → CodeGrows a d
+grows_thrice a b c d one two three = grows_then a c d (grows_then a b c one two) three
+
 -- one piece of code after another
 pub appended_then : (a b c : CodeBuf) (one two : List Instr) (first second : ℕ → List Note)
     → Appended a b one first → Appended b c two second

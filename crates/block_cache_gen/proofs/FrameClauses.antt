@@ -55,13 +55,17 @@ module _ (f : Setting) (once : DeclaredOnce f.decls) (to : ℕ) (e : Tree) (type
       (leaves-base f to holds) in
       record { last = v.last; passes = v.passes; carries = v.kept.carries; value = v.labelled }
 
--- The clauses for the code and the notes that a call made of an expression, with `place` instructions before them.
-pub record ExprPromises (f : Setting) (mode : Mode) (to : ℕ) (e : Tree) (place : ℕ) (code : List Instr)
-    (notes : List Note) : Type 0 where
-  pub runs : Evaluates f mode to e code
-  pub passes : mode ≡ Public → IsPassedAsExpr f to e place code notes
-  pub walked : ¬ (mode ≡ Public) → IsWalkedAsExpr f to e code
+-- The clauses for code in a mode: what runs leave, how the check passes it and walks it, and that it stores no word.
+pub record Promises (f : Setting) (mode : Mode) (code : List Instr) (leaves passed walks : Type 0) : Type 0 where
+  pub runs : leaves
+  pub passes : mode ≡ Public → passed
+  pub walked : ¬ (mode ≡ Public) → walks
   pub stores : stored_words f.reduces code ≡ 0
+
+-- those for the code and the notes that a call made of an expression, with n instructions before them
+abbrev pub ExprPromises : Setting → Mode → (to : ℕ) → Tree → (n : ℕ) → List Instr → List Note → Type 0
+ExprPromises f mode to e n code notes =
+    Promises f mode code (Evaluates f mode to e code) (IsPassedAsExpr f to e n code notes) (IsWalkedAsExpr f to e code)
 
 -- what was appended for an expression does what is promised
 pub frame-expr_promises : (f : Frame) (s : Setting) (mode : Mode) (to : ℕ) (e : Tree) (a b : CodeBuf) → IsFrame f
@@ -85,13 +89,11 @@ frame-expr_promises f s mode to e a b is same typed public low x =
       stores = expr-stores g.reduces g mode to e;
     })
 
--- The clauses for those of a guard.
-pub record TestPromises (f : Setting) (mode : Mode) (to : ℕ) (t : Test) (place : ℕ) (code : List Instr)
-    (notes : List Note) : Type 0 where
-  pub runs : EvaluatesTest f mode to t code
-  pub passes : mode ≡ Public → IsPassedAsTest f to t place code notes
-  pub walked : ¬ (mode ≡ Public) → IsWalkedAsTest f to t code
-  pub stores : stored_words f.reduces code ≡ 0
+-- and those for a guard
+abbrev pub TestPromises : Setting → Mode → (to : ℕ) → Test → (place : ℕ) → List Instr → List Note → Type 0
+TestPromises f mode to t place code notes =
+    Promises f mode code (EvaluatesTest f mode to t code) (IsPassedAsTest f to t place code notes)
+    (IsWalkedAsTest f to t code)
 
 -- and what was appended for a guard
 pub frame-test_promises : (f : Frame) (s : Setting) (mode : Mode) (to : ℕ) (t : Test) (a b : CodeBuf) → IsFrame f

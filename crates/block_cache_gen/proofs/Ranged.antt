@@ -1,12 +1,15 @@
 -- What holds of a setting holds of it with other ranges too: only the code of an access depends on these. `ranged f
 -- f.ranges` is `f`, so each lemma also leads back.
-use Rattle.std.proofs.Common.{ℕ, inl, inr, ◌⊎◌}
+use Rattle.std.proofs.Common.{ℕ, List, inl, inr, ◌⊎◌}
 use Rattle.gr_word.specs.declared.variables.Label.{Label}
+use Rattle.lt_isa.specs.declared.instructions.Instr.{Instr}
+use Rattle.lt_isa.specs.declared.symbols.Note.{Note}
 use Rattle.lt_isa.specs.Prelude.{Parts, block_words, State}
 use Rattle.src_tree.specs.Prelude.{Store, Tree, Number, Variable, Element, Operation, Test, Statement, SetVariable, SetElement, Choice, Loop, Block, Nothing, Then}
 use Rattle.trace_patterns.specs.Prelude.{Known}
 use Rattle.scalar_ranges.specs.Prelude.{Ranges}
-use Rattle.block_cache_gen.specs.Prelude.{Home, Setting, ranged, HasHomes, IsArrayHome, IsInOneBlock, IsResidentHome, IsSpreadHome, Carries, HasPublicIndexes, TestHasPublicIndexes, StatementHasPublicIndexes, BlockHasPublicIndexes, FitsHomes, StandsFor}
+use Rattle.held_registers.specs.Prelude.{IsSoundHeld}
+use Rattle.block_cache_gen.specs.Prelude.{Held, Home, Pin, Setting, ranged, HasHomes, IsArrayHome, IsInOneBlock, IsPin, IsResidentHome, IsSpreadHome, Carries, HasPublicIndexes, TestHasPublicIndexes, StatementHasPublicIndexes, BlockHasPublicIndexes, FitsHomes, StandsFor}
 use Rattle.block_cache_gen.proofs.RangesOfCode.{HomesFit}
 
 module _ (f : Setting) (known : Ranges) where
@@ -32,39 +35,6 @@ module _ (f : Setting) (known : Ranges) where
     held = is.held;
   }
 
-  -- the homes
-  spread-ranged : (w : ℕ) (label : Label) (h : Home) → IsSpreadHome f w label h → IsSpreadHome (ranged f known) w label h
-  spread-ranged w label h is =
-      record { secret = is.secret; word = is.word; inside = is.inside; pinned = is.pinned }
-
-  blocks-ranged : (w : ℕ) (label : Label) (h : Home) → IsInOneBlock w h ⊎ IsSpreadHome f w label h
-      → IsInOneBlock w h ⊎ IsSpreadHome (ranged f known) w label h
-  blocks-ranged w label h (inl one) = inl one
-  blocks-ranged w label h (inr spread) = inr (spread-ranged w label h spread)
-
-  resident-ranged : (w : ℕ) (label : Label) (h : Home) → IsResidentHome f w label h
-      → IsResidentHome (ranged f known) w label h
-  resident-ranged w label h is = record {
-    bank = is.bank;
-    pinned = is.pinned;
-    length = is.length;
-    blocks = blocks-ranged w label h is.blocks;
-  }
-
-  array-ranged : (o : Parts) (label : Label) (h : Home) → IsArrayHome o f label h
-      → IsArrayHome o (ranged f known) label h
-  array-ranged o label h is = record {
-    bank = is.bank;
-    plain = is.plain;
-    single = is.single;
-    slot = is.slot;
-    unpinned = is.unpinned;
-    apart = is.apart;
-    word = is.word;
-    length = is.length;
-    inside = is.inside;
-  }
-
   -- the public indexes
   pub tree-ranged : (e : Tree) → HasPublicIndexes f e → HasPublicIndexes (ranged f known) e
   tree-ranged (Number z) has = has
@@ -88,21 +58,65 @@ module _ (f : Setting) (known : Ranges) where
     block-ranged Nothing has = has
     block-ranged (Then s rest) has = (statement-ranged s has.0, block-ranged rest has.1)
 
+-- Homes stay as they are in an object with other notes and other code, and in a setting with other ranges and other
+-- registers that are held.
+module _ (o : Parts) (f : Setting) (notes : List Note) (code : List Instr) (held : List Held) (known : Ranges) where
+  abbrev pub other_object : Parts
+  other_object = record o { notes = notes; code = code }
+
+  abbrev pub other_setting : Setting
+  other_setting = record f { held = held; ranges = known }
+
+  spread-same : (w : ℕ) (label : Label) (h : Home) → IsSpreadHome f w label h → IsSpreadHome other_setting w label h
+  spread-same w label h is = record { secret = is.secret; word = is.word; inside = is.inside; pinned = is.pinned }
+
+  blocks-same : (w : ℕ) (label : Label) (h : Home) → IsInOneBlock w h ⊎ IsSpreadHome f w label h
+      → IsInOneBlock w h ⊎ IsSpreadHome other_setting w label h
+  blocks-same w label h (inl one) = inl one
+  blocks-same w label h (inr spread) = inr (spread-same w label h spread)
+
+  resident-same : (w : ℕ) (label : Label) (h : Home) → IsResidentHome f w label h → IsResidentHome other_setting w label h
+  resident-same w label h is = record {
+    bank = is.bank;
+    pinned = is.pinned;
+    length = is.length;
+    blocks = blocks-same w label h is.blocks;
+  }
+
+  array-same : (label : Label) (h : Home) → IsArrayHome o f label h → IsArrayHome other_object other_setting label h
+  array-same label h is = record {
+    bank = is.bank;
+    plain = is.plain;
+    single = is.single;
+    slot = is.slot;
+    unpinned = is.unpinned;
+    apart = is.apart;
+    word = is.word;
+    length = is.length;
+    inside = is.inside;
+  }
+
+  pin-same : (slot : ℕ) (p : Pin) → IsPin o slot p → IsPin other_object slot p
+  pin-same slot p is = record { few = is.few; apart = is.apart; bank = is.bank; block = is.block }
+
+  pub homes-same : IsSoundHeld f.decls held → HasHomes o f → HasHomes other_object other_setting
+  homes-same sound is = record {
+    profile = is.profile;
+    banks = is.banks;
+    blocks = is.blocks;
+    count = is.count;
+    scalars = is.scalars;
+    residents = λ x label shape declared resident.
+        resident-same (block_words o) label _ (is.residents x label shape declared resident);
+    arrays = λ x label declared other. array-same label _ (is.arrays x label declared other);
+    pins = λ slot p pinned. pin-same slot p (is.pins slot p pinned);
+    pins_apart = is.pins_apart;
+    held = sound;
+    apart = is.apart;
+  }
+
 pub homes-ranged : (o : Parts) (f : Setting) (known : Ranges) → HasHomes o f → HasHomes o (ranged f known)
-homes-ranged o f known is = record {
-  profile = is.profile;
-  banks = is.banks;
-  blocks = is.blocks;
-  count = is.count;
-  scalars = is.scalars;
-  residents = λ x label shape declared resident.
-      resident-ranged f known (block_words o) label _ (is.residents x label shape declared resident);
-  arrays = λ x label declared other. array-ranged f known o label _ (is.arrays x label declared other);
-  pins = is.pins;
-  pins_apart = is.pins_apart;
-  held = is.held;
-  apart = is.apart;
-}
+homes-ranged o f known is = homes-same o f o.notes o.code f.held known is.held is
 
 pub homes_fit-ranged : (banks : ℕ) (f : Setting) (known : Ranges) → HomesFit banks f → HomesFit banks (ranged f known)
 homes_fit-ranged banks f known is =

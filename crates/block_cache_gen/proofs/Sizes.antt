@@ -44,27 +44,27 @@ compared_some Reduced f h to from is = absurd (cc)
 compared_some Within f h to from is = absurd (cc)
 
 -- that of a block four, and two at least
-shift_short : (f : Setting) (h : Home) (to : ℕ) → length (shift_code f h to) ≤ 4
-shift_short f h to =
+shift_length : (f : Setting) (h : Home) (to : ℕ)
+    → (2 ≤ length (shift_code f h to)) × (length (shift_code f h to) ≤ 4)
+shift_length f h to =
     let log = pos f.profile.block_log in
     let block = pos h.block in
-    omega (
-      arith,
-      length-append (applied_code f Shr (to + 1) to (to + 1) log) (applied_code f Add (to + 1) (to + 1) (to + 2) block),
-      applied_short f Shr (to + 1) to (to + 1) log,
-      applied_short f Add (to + 1) (to + 1) (to + 2) block,
+    let first = applied_code f Shr (to + 1) to (to + 1) log in
+    let both = length-append first (applied_code f Add (to + 1) (to + 1) (to + 2) block) in (
+      omega (arith, both, applied_some f Shr (to + 1) to (to + 1) log, applied_some f Add (to + 1) (to + 1) (to + 2) block),
+      omega (
+        arith,
+        both,
+        applied_short f Shr (to + 1) to (to + 1) log,
+        applied_short f Add (to + 1) (to + 1) (to + 2) block,
+      ),
     )
 
+shift_short : (f : Setting) (h : Home) (to : ℕ) → length (shift_code f h to) ≤ 4
+shift_short f h to = (shift_length f h to).1
+
 pub shift_some : (f : Setting) (h : Home) (to : ℕ) → 2 ≤ length (shift_code f h to)
-shift_some f h to =
-    let log = pos f.profile.block_log in
-    let block = pos h.block in
-    omega (
-      arith,
-      length-append (applied_code f Shr (to + 1) to (to + 1) log) (applied_code f Add (to + 1) (to + 1) (to + 2) block),
-      applied_some f Shr (to + 1) to (to + 1) log,
-      applied_some f Add (to + 1) (to + 1) (to + 2) block,
-    )
+shift_some f h to = (shift_length f h to).0
 
 pub load_short : (skipped : Bool) (h : Home) (to : ℕ) → length (load_code skipped h to) ≤ 3
 load_short true h to = omega arith

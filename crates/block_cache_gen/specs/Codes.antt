@@ -190,9 +190,13 @@ offset_code f h to from = if h.word == 0 then [] else applied_code f Add to from
 abbrev pub has_offset : Home → Bool
 has_offset h = h.resident && not (h.word == 0)
 
--- the number of a word of a resident array in its block, in register `to`
+-- the number of a word of a resident array in its block, in register `to`, if the index is a number
+abbrev pub placed_word : Home → ℕ → ℤ → List Instr
+placed_word h to z = Li to (pos (h.word + fixed_word h z)) ∷ []
+
+-- the same for any index
 abbrev pub placed_code : Numbering → Setting → Home → (to from : ℕ) → Option ℤ → List Instr → List Instr
-placed_code n f h to from (Some z) index = Li to (pos (h.word + fixed_word h z)) ∷ []
+placed_code n f h to from (Some z) index = placed_word h to z
 placed_code n f h to from None index =
     index ++ (numbered_code n f h to from ++ offset_code f h to (numbered_register n to from))
 

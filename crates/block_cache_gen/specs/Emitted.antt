@@ -1,6 +1,6 @@
 -- For proofs, and for the functions that branch_padding and code_gen build on: what a call appends to the code
 -- and its notes.
-use Rattle.std.specs.Prelude.{◌≡◌, ℕ, ◌+◌, List, [], ◌++◌, length, Option, None}
+use Rattle.std.specs.Prelude.{◌≡◌, ℕ, ◌+◌, List, [], ◌++◌, length, ℤ, Option, Some, None, false}
 use Rattle.gr_word.specs.declared.operations.Op.{Op}
 use Rattle.strength_reduction.specs.Steps.{Step}
 use Rattle.lt_isa.specs.declared.instructions.Instr.{Instr}
@@ -9,8 +9,9 @@ use Rattle.src_tree.specs.Trees.{Tree, Test, Statement}
 use Rattle.block_cache_gen.specs.declared.frames.CodeBuf.{CodeBuf}
 use Rattle.block_cache_gen.specs.declared.frames.Mode.{Mode}
 use Rattle.block_cache_gen.specs.declared.frames.Mode.TheVariants.{Public, Real, Mirrored}
+use Rattle.block_cache_gen.specs.declared.indexes.Numbering.TheVariants.{Reduced}
 use Rattle.block_cache_gen.specs.Homes.{Home, Setting}
-use Rattle.block_cache_gen.specs.Codes.{operand, operand_part, operand_register, operation_code, steps_at, expr_code, guard_code, set_code, straight_code, index_operand, indexed_code, found_by, fixed_index, numbering}
+use Rattle.block_cache_gen.specs.Codes.{access_by, load_code, skips, operand, operand_part, operand_register, operation_code, steps_at, expr_code, guard_code, set_code, straight_code, index_operand, indexed_code, found_by, fixed_index, numbering}
 use Rattle.block_cache_gen.specs.Notes.{operation_notes, expr_notes, guard_notes, set_notes, straight_notes, index_notes, loaded_notes, load_notes}
 pub use Rattle.block_cache_gen.specs.Behind.{CodeGrows}
 
@@ -64,6 +65,21 @@ abbrev pub EmitsAccess : Setting → Mode → Home → (mask to : ℕ) → Tree 
 EmitsAccess f mode h mask to i before after =
     Appended before after (indexed_code f (numbering f mode h i) mode h to i (expr_code f mode to i))
     (λ place. notes_in mode (access_notes f h mask to i place))
+
+-- what the load of an access appends
+abbrev pub EmitsLoad : Setting → Mode → Home → (mask to : ℕ) → CodeBuf → CodeBuf → Type 0
+EmitsLoad f mode h mask to a b =
+    Appended a b (load_code (skips mode h) h to)
+    (λ place. notes_in mode
+    (loaded_notes false Reduced None f h mask to (place + length (load_code (skips Public h) h to))))
+
+-- the code of an access by a number
+abbrev pub EmitsFixed : Setting → Mode → Home → (mask to : ℕ) → ℤ → CodeBuf → CodeBuf → Type 0
+EmitsFixed f mode h mask to z a c =
+    Appended a c (access_by h.resident Reduced f mode h to to (Some z) [])
+    (λ place. notes_in mode
+    (loaded_notes h.resident Reduced (Some z) f h mask to
+    (place + length (access_by h.resident Reduced f Public h to to (Some z) []))))
 
 -- the part of an access that follows the code of its index, where the index is no number that needs no code
 abbrev pub EmitsFound : Setting → Mode → Home → (mask to : ℕ) → Tree → CodeBuf → CodeBuf → Type 0

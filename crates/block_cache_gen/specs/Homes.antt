@@ -45,16 +45,7 @@ pub record Setting : Type 0 where
 
 -- the same for code at a place where other ranges are known
 abbrev pub ranged : Setting → Ranges → Setting
-ranged f known = record {
-  decls = f.decls;
-  homes = f.homes;
-  blocks = f.blocks;
-  pins = f.pins;
-  held = f.held;
-  profile = f.profile;
-  reduces = f.reduces;
-  ranges = known;
-}
+ranged f known = record f { ranges = known }
 
 -- the default home, of a name that isn't declared
 abbrev pub no_home : Home

@@ -8,10 +8,10 @@ unfoldable pub use Rattle.block_cache_gen.specs.Assignments.{IsAssignment, IsEff
 unfoldable pub use Rattle.block_cache_gen.specs.Behind.{code_behind, notes_behind}
 pub use Rattle.block_cache_gen.specs.Carries.{Carries, CarriesInArm}
 unfoldable pub use Rattle.block_cache_gen.specs.Carries.{held_tree}
-unfoldable pub use Rattle.block_cache_gen.specs.Codes.{access_by, access_code, applied_code, compared_code, compares, copy_code, effect_of, expr_code, fixed_code, fixed_index, fixed_word, found_by, guard_code, has_offset, held_number, index_operand, indexed_code, is_cached, is_in_place, is_masked, is_power, is_straight, is_within_home, keeps_label, least_word, left_operand, literal, load_code, located_code, may_skip_loads, may_step, numbered_code, numbered_register, numbering, numbering_by, offset_code, operand, operand_part, operand_register, operand_unless, operation_code, placed_code, read_by, read_code, reduced_code, reducer, reducing, scalar_code, scalar_set, set_code, shift_code, skips, steps_at, store_code, stored_among, stored_by, stored_code, straight, straight_code, straight_if, target, write_code, zero_of}
+unfoldable pub use Rattle.block_cache_gen.specs.Codes.{access_by, access_code, applied_code, compared_code, compares, copy_code, effect_of, expr_code, fixed_code, fixed_index, fixed_word, found_by, guard_code, has_offset, held_number, index_operand, indexed_code, is_cached, is_in_place, is_masked, is_power, is_straight, is_within_home, keeps_label, least_word, left_operand, literal, load_code, located_code, may_skip_loads, may_step, numbered_code, numbered_register, numbering, numbering_by, offset_code, operand, operand_part, operand_register, operand_unless, operation_code, placed_code, placed_word, read_by, read_code, reduced_code, reducer, reducing, scalar_code, scalar_set, set_code, shift_code, skips, steps_at, store_code, stored_among, stored_by, stored_code, straight, straight_code, straight_if, target, write_code, zero_of}
 pub use Rattle.block_cache_gen.specs.Conditions.{IsStatementFor}
 pub use Rattle.block_cache_gen.specs.Emitted.{Appended, CodeGrows}
-unfoldable pub use Rattle.block_cache_gen.specs.Emitted.{EmitsAccess, EmitsExpr, EmitsFound, EmitsGuard, EmitsOperand, EmitsOperation, EmitsSet, EmitsStraight, access_notes, no_notes, notes_in}
+unfoldable pub use Rattle.block_cache_gen.specs.Emitted.{EmitsAccess, EmitsExpr, EmitsFixed, EmitsFound, EmitsGuard, EmitsLoad, EmitsOperand, EmitsOperation, EmitsSet, EmitsStraight, access_notes, no_notes, notes_in}
 pub use Rattle.block_cache_gen.specs.Extends.{Extends}
 unfoldable pub use Rattle.block_cache_gen.specs.HeldCodes.{HasSecretSlot, begin_code, each_held, end_code, held_beginning, held_ending, home_numbered}
 pub use Rattle.block_cache_gen.specs.Homes.{EncryptedSlot, HasHomes, Held, Home, IsArrayHome, IsInOneBlock, IsPin, IsResidentHome, IsScalarHome, IsSpreadHome, ObliviousSlot, Pin, PlainSlot, Serves, Setting}

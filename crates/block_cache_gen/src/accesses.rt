@@ -11,15 +11,24 @@ ghost use Rattle.block_cache_gen.specs.TreeWords.{HasWords};
 ghost use Rattle.block_cache_gen.specs.Variables.{home_in};
 
 use crate::emitter::{Emitter, label_of};
-use crate::frames::{CodeBuf, Mode};
+use crate::frames::{CodeBuf, Mode, PutResult};
 use crate::indexes::{
     Indexed, Numbering, numbered_register, put_applied, put_note_behind, put_numbered,
 };
 use crate::variables::Variable;
-use gr_base::Memory;
 use gr_word::{Cmp, Label, Op};
 use lt_isa::{BankKind, Instr, bank_kind};
 use src_tree::Expr;
+
+/// An access of an array: the first of the registers that its code overwrites, how the code is made, and which registers
+/// may be secret in its notes.
+#[derive(Clone, Copy, Debug)]
+pub(crate) struct Access {
+    pub array: Variable,
+    pub to: u8,
+    pub mode: Mode,
+    pub mask: u32,
+}
 
 /// The mask without a register.
 pub(crate) fn unmarked(mask: u32, register: u8) -> u32
@@ -179,7 +188,7 @@ pub(crate) fn fixed_word(array: Variable, index: i64) -> u64
 }
 
 /// Appends the copy of a value of a label: a sum with the zero of that label. The only error is want of memory.
-pub(crate) fn put_copy(out: &mut CodeBuf, label: Label, to: u8, from: u8) -> Result<(), Memory>
+pub(crate) fn put_copy(out: &mut CodeBuf, label: Label, to: u8, from: u8) -> PutResult
     ensures appended { OnOk result (Appended out.old out.new (copy_code label to from) no_notes) }
     ensures grows { CodeGrows out.old out.new }
 {
@@ -196,7 +205,7 @@ pub(crate) fn put_copy(out: &mut CodeBuf, label: Label, to: u8, from: u8) -> Res
 }
 
 /// Appends the load of a scalar's word into a register: a copy of the register that holds it, or a read of its slot. The only error is want of memory.
-pub(crate) fn put_scalar(out: &mut CodeBuf, scalar: Variable, to: u8) -> Result<(), Memory>
+pub(crate) fn put_scalar(out: &mut CodeBuf, scalar: Variable, to: u8) -> PutResult
     ensures appended { OnOk result (Appended out.old out.new (scalar_code scalar.held (home_in scalar) to) no_notes) }
     ensures grows { CodeGrows out.old out.new }
 {
@@ -216,24 +225,16 @@ pub(crate) fn put_scalar(out: &mut CodeBuf, scalar: Variable, to: u8) -> Result<
     ])
 }
 
-/// Appends code for an element whose index is a number: it leaves the number of the word in register `to` and that of
-/// its block in the next register. The only error is want of memory.
-pub(crate) fn put_fixed(
-    emitter: &Emitter<'_, '_, '_>,
-    out: &mut CodeBuf,
-    array: Variable,
-    index: i64,
-    to: u8,
-) -> Result<(), Memory>
+// The code for an element whose index is a number: it leaves the number of the word in register `to` and that of its
+// block in the next register.
+fn fixed_code(emitter: &Emitter<'_, '_, '_>, array: Variable, index: i64, to: u8) -> [Instr; 2]
     requires length { 1 ≤ array.place.length }
     requires registers { to + 2 < 19 }
-    ensures appended { OnOk result
-        (Appended out.old out.new (fixed_code emitter.now.profile.block_log (home_in array) to index) no_notes) }
-    ensures grows { CodeGrows out.old out.new }
+    ensures { result ≡ fixed_code emitter.now.profile.block_log (home_in array) to index }
 {
     let word = fixed_word(array, index);
     let block = u64::from(array.place.block) + word / u64::from(emitter.block_words());
-    out.put(&[
+    [
         Instr::Li {
             rd: to,
             value: word as i64,
@@ -242,7 +243,7 @@ pub(crate) fn put_fixed(
             rd: to + 1,
             value: block as i64,
         },
-    ])
+    ]
 }
 
 /// Whether a slot holds the variable's block for the whole run.
@@ -253,16 +254,9 @@ pub(crate) fn is_resident(variable: Variable) -> bool
 }
 
 // The number of a resident array's word in its block, where the index is a number.
-fn put_placed_word(
-    emitter: &Emitter<'_, '_, '_>,
-    out: &mut CodeBuf,
-    array: Variable,
-    index: i64,
-    to: u8,
-) -> Result<(), Memory>
+fn put_placed_word(out: &mut CodeBuf, array: Variable, index: i64, to: u8) -> PutResult
     requires length { 1 ≤ array.place.length }
-    ensures appended { OnOk result
-        (Appended out.old out.new (placed_code Reduced emitter.now (home_in array) to to (Some index) []) no_notes) }
+    ensures appended { OnOk result (Appended out.old out.new (placed_word (home_in array) to index) no_notes) }
     ensures grows { CodeGrows out.old out.new }
 {
     let place = u64::from(array.place.word) + fixed_word(array, index);
@@ -279,58 +273,57 @@ pub(crate) fn has_offset(array: Variable) -> bool
     is_resident(array) && array.place.word != 0
 }
 
-// The number of a resident array's first word is added to that of a word, in register `from`.
-fn put_offset(
-    emitter: &Emitter<'_, '_, '_>,
-    out: &mut CodeBuf,
-    array: Variable,
-    to: u8,
-    from: u8,
-) -> Result<(), Memory>
-    requires registers { to + 2 < 19 }
-    ensures appended { OnOk result
-        (Appended out.old out.new (offset_code emitter.now (home_in array) to from) no_notes) }
+// The number of a resident array's first word is added to that of the word that an index names.
+fn put_offset(emitter: &Emitter<'_, '_, '_>, out: &mut CodeBuf, index: Indexed) -> PutResult
+    requires registers { index.to + 2 < 19 }
+    ensures appended { OnOk result (Appended out.old out.new (offset_code emitter.now (home_in index.array) index.to
+        (numbered_register index.numbering index.to index.from)) no_notes) }
     ensures grows { CodeGrows out.old out.new }
 {
-    if array.place.word == 0 {
+    if index.array.place.word == 0 {
         return out.put(&[]);
     }
-    put_applied(
-        emitter,
-        out,
-        Op::Add,
-        to,
-        from,
-        to + 1,
-        i64::from(array.place.word),
-    )
+    let from = numbered_register(index.numbering, index.to, index.from);
+    let word = i64::from(index.array.place.word);
+    put_applied(emitter, out, Op::Add, index.to, from, index.to + 1, word)
 }
 
-// Appends what leaves the number, in its block, of the word of a resident array that an index names.
-fn put_placed(
-    emitter: &Emitter<'_, '_, '_>,
-    out: &mut CodeBuf,
-    index: Indexed,
-) -> Result<(), Memory>
-    requires registers { index.to + 2 < 19 }
-    requires room { length out.old.code.items + 6 < 2 ^ 32 }
-    ensures appended { OnOk result (Appended out.old out.new
-        (code_of_index emitter.now index ++ offset_code emitter.now (home_in index.array) index.to
-        (numbered_register index.numbering index.to index.from)) (notes_of_index emitter.now index)) }
+// Appends the load of the block that the next register names into the array's slot: in public code only where it isn't
+// there, with a note. The only error is want of memory.
+fn put_load(emitter: &Emitter<'_, '_, '_>, out: &mut CodeBuf, access: Access) -> PutResult
+    requires registers { access.to + 2 < 19 }
+    requires room { length out.old.code.items + 3 < 2 ^ 32 }
+    ensures appended { OnOk result
+        (EmitsLoad emitter.now access.mode (home_in access.array) access.mask access.to out.old out.new) }
     ensures grows { CodeGrows out.old out.new }
 {
-    put_numbered(emitter, out, index)?;
-    let from = numbered_register(index.numbering, index.to, index.from);
-    put_offset(emitter, out, index.array, index.to, from)
+    let Access { array, to, .. } = access;
+    let load = Instr::Ldb {
+        slot: array.slot,
+        bank: array.place.bank,
+        reg: to + 1,
+    };
+    if !skips(access.mode, array) {
+        return out.put(&[load]);
+    }
+    out.put(&[
+        Instr::Idb {
+            rd: to + 2,
+            slot: array.slot,
+        },
+        Instr::Br {
+            cmp: Cmp::Eq,
+            ra: to + 2,
+            rb: to + 1,
+            offset: 2,
+        },
+        load,
+    ])?;
+    put_note_behind(emitter, out, access_mask(access.mask, to))
 }
 
 // The number of the block of the word that a register names, in the next register.
-fn put_block(
-    emitter: &Emitter<'_, '_, '_>,
-    out: &mut CodeBuf,
-    array: Variable,
-    to: u8,
-) -> Result<(), Memory>
+fn put_block(emitter: &Emitter<'_, '_, '_>, out: &mut CodeBuf, array: Variable, to: u8) -> PutResult
     requires registers { to + 2 < 19 }
     ensures appended { OnOk result
         (Appended out.old out.new (shift_code emitter.now (home_in array) to) no_notes) }
@@ -356,90 +349,26 @@ fn put_block(
     )
 }
 
-// Appends what leaves the number of the word that an index names, and that of its block in the next register.
-fn put_located(
-    emitter: &Emitter<'_, '_, '_>,
-    out: &mut CodeBuf,
-    index: Indexed,
-) -> Result<(), Memory>
-    requires registers { index.to + 2 < 19 }
-    requires room { length out.old.code.items + 6 < 2 ^ 32 }
-    ensures appended { OnOk result (Appended out.old out.new
-        (code_of_index emitter.now index ++ shift_code emitter.now (home_in index.array) index.to)
-        (notes_of_index emitter.now index)) }
-    ensures grows { CodeGrows out.old out.new }
-{
-    put_numbered(emitter, out, index)?;
-    put_block(emitter, out, index.array, index.to)
-}
-
-// Appends the load of the block that the next register names into the array's slot: in public code only where it isn't
-// there, with a note. The only error is want of memory.
-fn put_load(
-    emitter: &Emitter<'_, '_, '_>,
-    out: &mut CodeBuf,
-    array: Variable,
-    to: u8,
-    mode: Mode,
-    mask: u32,
-) -> Result<(), Memory>
-    requires registers { to + 2 < 19 }
-    requires room { length out.old.code.items + 3 < 2 ^ 32 }
-    ensures appended { OnOk result (Appended out.old out.new (load_code (skips mode (home_in array)) (home_in array) to)
-        (λ place. notes_in mode (loaded_notes false Reduced None emitter.now (home_in array) mask to
-        (place + length (load_code (skips Mode.Public (home_in array)) (home_in array) to))))) }
-    ensures grows { CodeGrows out.old out.new }
-{
-    let load = Instr::Ldb {
-        slot: array.slot,
-        bank: array.place.bank,
-        reg: to + 1,
-    };
-    if !skips(mode, array) {
-        return out.put(&[load]);
-    }
-    out.put(&[
-        Instr::Idb {
-            rd: to + 2,
-            slot: array.slot,
-        },
-        Instr::Br {
-            cmp: Cmp::Eq,
-            ra: to + 2,
-            rb: to + 1,
-            offset: 2,
-        },
-        load,
-    ])?;
-    put_note_behind(emitter, out, access_mask(mask, to))
-}
-
 /// Appends the code of an access whose index is a number. The only error is want of memory.
 pub(crate) fn put_fixed_access(
     emitter: &Emitter<'_, '_, '_>,
     out: &mut CodeBuf,
-    array: Variable,
+    access: Access,
     index: i64,
-    to: u8,
-    mode: Mode,
-    mask: u32,
-) -> Result<(), Memory>
-    requires length { 1 ≤ array.place.length }
-    requires registers { to + 2 < 19 }
+) -> PutResult
+    requires length { 1 ≤ access.array.place.length }
+    requires registers { access.to + 2 < 19 }
     requires room { length out.old.code.items + 6 < 2 ^ 32 }
-    ensures appended { OnOk result (Appended out.old out.new
-        (access_by (home_in array).resident Reduced emitter.now mode (home_in array) to to (Some index) [])
-        (λ place. notes_in mode
-        (loaded_notes (home_in array).resident Reduced (Some index) emitter.now (home_in array) mask to
-        (place + length (access_by (home_in array).resident Reduced emitter.now Mode.Public
-        (home_in array) to to (Some index) []))))) }
+    ensures appended { OnOk result
+        (EmitsFixed emitter.now access.mode (home_in access.array) access.mask access.to index out.old out.new) }
     ensures grows { CodeGrows out.old out.new }
 {
+    let Access { array, to, .. } = access;
     if is_resident(array) {
-        return put_placed_word(emitter, out, array, index, to);
+        return put_placed_word(out, array, index, to);
     }
-    put_fixed(emitter, out, array, index, to)?;
-    put_load(emitter, out, array, to, mode, mask)
+    out.put(&fixed_code(emitter, array, index, to))?;
+    put_load(emitter, out, access)
 }
 
 /// Appends the part of the code of an access that follows the code of its index, which is in register `from`. The only
@@ -447,32 +376,32 @@ pub(crate) fn put_fixed_access(
 pub(crate) fn put_found_access<'a>(
     emitter: &Emitter<'a, '_, '_>,
     out: &mut CodeBuf,
-    array: Variable,
+    access: Access,
     index: &'a Expr,
-    to: u8,
     from: u8,
-    mode: Mode,
-    mask: u32,
-) -> Result<(), Memory>
-    requires registers { to + 2 < 19 }
+) -> PutResult
+    requires registers { access.to + 2 < 19 }
     requires from { from ≡ operand_register (index_operand emitter.now
-        (numbering emitter.now mode (home_in array) (expr_tree index.now)) (home_in array) (expr_tree index.now)) to }
+        (numbering emitter.now access.mode (home_in access.array) (expr_tree index.now)) (home_in access.array)
+        (expr_tree index.now)) access.to }
     requires room { length out.old.code.items + 16 < 2 ^ 32 }
-    ensures appended { OnOk result
-        (EmitsFound emitter.now mode (home_in array) mask to (expr_tree index.now) out.old out.new) }
+    ensures appended { OnOk result (EmitsFound emitter.now access.mode (home_in access.array) access.mask access.to
+        (expr_tree index.now) out.old out.new) }
     ensures grows { CodeGrows out.old out.new }
 {
-    let numbering = numbering(emitter, mode, array, index);
+    let Access { array, to, .. } = access;
+    let numbering = numbering(emitter, access.mode, array, index);
     let indexed = Indexed {
         array,
         numbering,
         from,
         to,
-        mask,
+        mask: access.mask,
     };
+    put_numbered(emitter, out, indexed)?;
     if is_resident(array) {
-        return put_placed(emitter, out, indexed);
+        return put_offset(emitter, out, indexed);
     }
-    put_located(emitter, out, indexed)?;
-    put_load(emitter, out, array, to, mode, mask)
+    put_block(emitter, out, array, to)?;
+    put_load(emitter, out, access)
 }

@@ -49,26 +49,20 @@ fn is_same(e: &Expr, other: &Expr) -> bool
     match e {
         Expr::Num(value) => match other {
             Expr::Num(word) => *value == *word,
-            Expr::Var(_) => false,
-            Expr::Item(_, _) => false,
-            Expr::Bin(_, _, _) => false,
+            Expr::Var(_) | Expr::Item(_, _) | Expr::Bin(_, _, _) => false,
         },
         Expr::Var(x) => match other {
             Expr::Num(_) => false,
             Expr::Var(y) => same_name(x, y),
-            Expr::Item(_, _) => false,
-            Expr::Bin(_, _, _) => false,
+            Expr::Item(_, _) | Expr::Bin(_, _, _) => false,
         },
         Expr::Item(x, index) => match other {
-            Expr::Num(_) => false,
-            Expr::Var(_) => false,
+            Expr::Num(_) | Expr::Var(_) => false,
             Expr::Item(y, place) => same_name(x, y) && is_same(index, place),
             Expr::Bin(_, _, _) => false,
         },
         Expr::Bin(op, left, right) => match other {
-            Expr::Num(_) => false,
-            Expr::Var(_) => false,
-            Expr::Item(_, _) => false,
+            Expr::Num(_) | Expr::Var(_) | Expr::Item(_, _) => false,
             Expr::Bin(by, first, second) => {
                 same_op(*op, *by) && (is_same(left, first) && is_same(right, second))
             }
@@ -156,26 +150,6 @@ fn numbered_alike(
         && (same_flag(is_masked(one), is_masked(other)) && reducers_alike(emitter, one, other))
 }
 
-fn indexes_alike(
-    emitter: &Emitter<'_, '_, '_>,
-    one: Variable,
-    other: Variable,
-    index: &Expr,
-    place: &Expr,
-) -> bool
-    ensures { result ≡ numbered_alike emitter.now (home_in one) (home_in other)
-        (is_within_home emitter.now (home_in one) (expr_tree index.now))
-        (is_within_home emitter.now (home_in other) (expr_tree place.now)) }
-{
-    numbered_alike(
-        emitter,
-        one,
-        other,
-        is_within_home(emitter, one, index),
-        is_within_home(emitter, other, place),
-    )
-}
-
 // Whether two variables are resident arrays of as many blocks whose indexes are reduced alike.
 fn reduced_alike(
     emitter: &Emitter<'_, '_, '_>,
@@ -193,12 +167,17 @@ fn reduced_alike(
         && (is_resident(other)
             && (same_flag(is_cached(one), is_cached(other))
                 && (same_flag(one.place.word == 0, other.place.word == 0)
-                    && (indexes_alike(emitter, one, other, index, place)
-                        && (places_alike(
-                            emitter,
-                            u32::from(one.place.word),
-                            u32::from(other.place.word),
-                        ) && as_many_blocks(one, other))))))
+                    && (numbered_alike(
+                        emitter,
+                        one,
+                        other,
+                        is_within_home(emitter, one, index),
+                        is_within_home(emitter, other, place),
+                    ) && (places_alike(
+                        emitter,
+                        u32::from(one.place.word),
+                        u32::from(other.place.word),
+                    ) && as_many_blocks(one, other))))))
 }
 
 // Whether elements of two arrays with alike indexes are alike.
@@ -226,13 +205,9 @@ fn is_same_number(e: &Expr, other: &Expr) -> bool
     match e {
         Expr::Num(value) => match other {
             Expr::Num(word) => *value == *word,
-            Expr::Var(_) => false,
-            Expr::Item(_, _) => false,
-            Expr::Bin(_, _, _) => false,
+            Expr::Var(_) | Expr::Item(_, _) | Expr::Bin(_, _, _) => false,
         },
-        Expr::Var(_) => false,
-        Expr::Item(_, _) => false,
-        Expr::Bin(_, _, _) => false,
+        Expr::Var(_) | Expr::Item(_, _) | Expr::Bin(_, _, _) => false,
     }
 }
 
@@ -279,24 +254,6 @@ fn targets_alike<'a>(emitter: &Emitter<'a, '_, '_>, x: &'a Name, y: &'a Name) ->
     same_flag(one.is_some(), other.is_some())
 }
 
-// Whether the values of two assignments are left in the registers of their targets, or neither.
-fn straight_alike<'a>(
-    emitter: &Emitter<'a, '_, '_>,
-    x: &'a Name,
-    y: &'a Name,
-    e: &'a Expr,
-    other: &'a Expr,
-) -> bool
-    requires first { is_some (context_of emitter.now.decls x.now) ≡ true }
-    requires second { is_some (context_of emitter.now.decls y.now) ≡ true }
-    ensures { result ≡ straight_alike emitter.now x.now y.now (expr_tree e.now) (expr_tree other.now) }
-{
-    same_flag(
-        straight(emitter, x, e).is_some(),
-        straight(emitter, y, other).is_some(),
-    )
-}
-
 // Whether two expressions show the same in secret code.
 fn is_alike<'a>(emitter: &Emitter<'a, '_, '_>, e: &'a Expr, other: &'a Expr) -> bool
     requires first { TypedTree (context_of emitter.now.decls) (expr_tree e.now) }
@@ -306,19 +263,15 @@ fn is_alike<'a>(emitter: &Emitter<'a, '_, '_>, e: &'a Expr, other: &'a Expr) -> 
     match e {
         Expr::Num(_) => match other {
             Expr::Num(_) => held_alike(emitter, e, other),
-            Expr::Var(_) => false,
-            Expr::Item(_, _) => false,
-            Expr::Bin(_, _, _) => false,
+            Expr::Var(_) | Expr::Item(_, _) | Expr::Bin(_, _, _) => false,
         },
         Expr::Var(_) => match other {
             Expr::Num(_) => false,
             Expr::Var(_) => held_alike(emitter, e, other),
-            Expr::Item(_, _) => false,
-            Expr::Bin(_, _, _) => false,
+            Expr::Item(_, _) | Expr::Bin(_, _, _) => false,
         },
         Expr::Item(x, index) => match other {
-            Expr::Num(_) => false,
-            Expr::Var(_) => false,
+            Expr::Num(_) | Expr::Var(_) => false,
             Expr::Item(y, place) => {
                 (in_step(emitter, x, y, index, place) && is_alike(emitter, index, place))
                     || (kind_of(emitter, x) != BankKind::Oblivious
@@ -327,9 +280,7 @@ fn is_alike<'a>(emitter: &Emitter<'a, '_, '_>, e: &'a Expr, other: &'a Expr) -> 
             Expr::Bin(_, _, _) => false,
         },
         Expr::Bin(op, left, right) => match other {
-            Expr::Num(_) => false,
-            Expr::Var(_) => false,
-            Expr::Item(_, _) => false,
+            Expr::Num(_) | Expr::Var(_) | Expr::Item(_, _) => false,
             Expr::Bin(by, first, second) => {
                 is_alike(emitter, left, first)
                     && (by_same_number(*op, right, *by, second)
@@ -350,11 +301,12 @@ fn is_pair<'a>(emitter: &Emitter<'a, '_, '_>, s: &'a Stmt, other: &'a Stmt) -> b
         Stmt::Set(x, e) => match other {
             Stmt::Set(y, g) => {
                 targets_alike(emitter, x, y)
-                    && (straight_alike(emitter, x, y, e, g) && is_alike(emitter, e, g))
+                    && (same_flag(
+                        straight(emitter, x, e).is_some(),
+                        straight(emitter, y, g).is_some(),
+                    ) && is_alike(emitter, e, g))
             }
-            Stmt::Put(_, _, _) => false,
-            Stmt::If(_, _, _) => false,
-            Stmt::While(_, _) => false,
+            Stmt::Put(_, _, _) | Stmt::If(_, _, _) | Stmt::While(_, _) => false,
         },
         Stmt::Put(x, i, e) => match other {
             Stmt::Set(_, _) => false,
@@ -364,11 +316,9 @@ fn is_pair<'a>(emitter: &Emitter<'a, '_, '_>, s: &'a Stmt, other: &'a Stmt) -> b
                         || (kind_of(emitter, x) == BankKind::Encrypted
                             && (same_name(x, y) && is_same(i, j))))
             }
-            Stmt::If(_, _, _) => false,
-            Stmt::While(_, _) => false,
+            Stmt::If(_, _, _) | Stmt::While(_, _) => false,
         },
-        Stmt::If(_, _, _) => false,
-        Stmt::While(_, _) => false,
+        Stmt::If(_, _, _) | Stmt::While(_, _) => false,
     }
 }
 

@@ -8,9 +8,8 @@ ghost use Rattle.block_cache_gen.specs.Variables.{home_in};
 
 use crate::accesses::{fixed_index, fixed_word, is_resident};
 use crate::emitter::Emitter;
-use crate::frames::{CodeBuf, Mode};
+use crate::frames::{CodeBuf, Mode, PutResult};
 use crate::variables::Variable;
-use gr_base::Memory;
 use lt_isa::Instr;
 use src_tree::Expr;
 use word_selection::Effect;
@@ -51,7 +50,7 @@ fn put_selected_read(
     out: &mut CodeBuf,
     array: Variable,
     to: u8,
-) -> Result<(), Memory>
+) -> PutResult
     requires registers { to + 3 < 19 }
     requires few { array.further ≤ 4 }
     ensures appended { OnOk result (Appended out.old out.new
@@ -72,7 +71,7 @@ pub(crate) fn put_element<'a>(
     array: Variable,
     index: &'a Expr,
     to: u8,
-) -> Result<(), Memory>
+) -> PutResult
     requires length { 1 ≤ array.place.length }
     requires registers { to + 3 < 19 }
     requires few { array.further ≤ 4 }
@@ -111,13 +110,7 @@ fn effect_of(mode: Mode) -> Effect
 /// Appends the store of a word to a slot, at the place that register 1 has: the word in register `value`, or in mirrored
 /// code the word that was there, so that nothing changes. Secret code reads that word before, or in mirrored code in
 /// place of the store if code may access a word `once` only.
-pub(crate) fn put_store(
-    out: &mut CodeBuf,
-    once: bool,
-    slot: u8,
-    value: u8,
-    mode: Mode,
-) -> Result<(), Memory>
+pub(crate) fn put_store(out: &mut CodeBuf, once: bool, slot: u8, value: u8, mode: Mode) -> PutResult
     ensures appended { OnOk result (Appended out.old out.new (store_code once mode slot value) no_notes) }
     ensures grows { CodeGrows out.old out.new }
 {
@@ -157,7 +150,7 @@ fn put_stored_among(
     array: Variable,
     value: u8,
     mode: Mode,
-) -> Result<(), Memory>
+) -> PutResult
     requires few { array.further ≤ 4 }
     ensures appended { OnOk result (Appended out.old out.new
         (stored_among emitter.now mode array.slot (further_slots (home_in array)) value) no_notes) }
@@ -189,7 +182,7 @@ pub(crate) fn put_stored<'a>(
     index: &'a Expr,
     value: u8,
     mode: Mode,
-) -> Result<(), Memory>
+) -> PutResult
     requires length { 1 ≤ array.place.length }
     requires few { array.further ≤ 4 }
     ensures appended { OnOk result (Appended out.old out.new

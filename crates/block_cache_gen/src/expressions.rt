@@ -7,14 +7,13 @@ ghost use Rattle.block_cache_gen.specs.Codes.{steps_at};
 ghost use Rattle.block_cache_gen.specs.TreeWords.{HasWords};
 ghost use Rattle.block_cache_gen.specs.Variables.{home_in};
 
-use crate::accesses::{fixed_index, put_fixed_access, put_found_access, put_scalar};
+use crate::accesses::{Access, fixed_index, put_fixed_access, put_found_access, put_scalar};
 use crate::elements::put_element;
 use crate::emitter::{Emitter, label_of};
-use crate::frames::{CodeBuf, Mode};
+use crate::frames::{CodeBuf, Mode, PutResult};
 use crate::operands::{index_operand, left_operand, operand, operand_mask, operand_register};
 use crate::steps::steps_code;
 use crate::variables::Variable;
-use gr_base::Memory;
 use gr_word::Op;
 use lt_isa::Instr;
 use src_tree::Expr;
@@ -29,7 +28,7 @@ pub(crate) fn put_expr<'a>(
     to: u8,
     mode: Mode,
     mask: u32,
-) -> Result<(), Memory>
+) -> PutResult
     requires typed { TypedTree (context_of emitter.now.decls) (expr_tree e.now) }
     requires registers { to + height_of (expr_tree e.now) ≤ 17 }
     requires room { length out.old.code.items + 120 * tree_weight (expr_tree e.now) ≤ most_instructions }
@@ -45,7 +44,13 @@ pub(crate) fn put_expr<'a>(
         Expr::Var(name) => put_scalar(out, emitter.variable(name.bytes()), to),
         Expr::Item(name, index) => {
             let array = emitter.variable(name.bytes());
-            put_access(emitter, out, array, index, to, mode, mask)?;
+            let access = Access {
+                array,
+                to,
+                mode,
+                mask,
+            };
+            put_access(emitter, out, access, index)?;
             put_element(emitter, out, array, index, to)
         }
         Expr::Bin(op, left, right) => {
@@ -70,7 +75,7 @@ pub(crate) fn put_operand<'a>(
     to: u8,
     mode: Mode,
     mask: u32,
-) -> Result<(), Memory>
+) -> PutResult
     requires typed { TypedTree (context_of emitter.now.decls) (expr_tree e.now) }
     requires known { OnSome held (HasWords (expr_tree e.now)) }
     requires registers { to + height_of (expr_tree e.now) ≤ 17 }
@@ -98,7 +103,7 @@ pub(crate) fn put_operation<'a>(
     to: u8,
     mode: Mode,
     mask: u32,
-) -> Result<(), Memory>
+) -> PutResult
     requires typed { TypedTree (context_of emitter.now.decls) (expr_tree right.now) }
     requires steps { option_map vec_items steps ≡ option_map (code_of to) (steps_at emitter.now op (expr_tree right.now)) }
     requires known { OnSome steps (HasWords (expr_tree right.now)) }
@@ -130,29 +135,27 @@ pub(crate) fn put_operation<'a>(
 pub(crate) fn put_access<'a>(
     emitter: &Emitter<'a, '_, '_>,
     out: &mut CodeBuf,
-    array: Variable,
+    access: Access,
     index: &'a Expr,
-    to: u8,
-    mode: Mode,
-    mask: u32,
-) -> Result<(), Memory>
-    requires length { 1 ≤ array.place.length }
+) -> PutResult
+    requires length { 1 ≤ access.array.place.length }
     requires typed { TypedTree (context_of emitter.now.decls) (expr_tree index.now) }
-    requires registers { to ≤ 16 }
-    requires height { to + height_of (expr_tree index.now) ≤ 17 }
+    requires registers { access.to ≤ 16 }
+    requires height { access.to + height_of (expr_tree index.now) ≤ 17 }
     requires room { length out.old.code.items + 120 * (1 + tree_weight (expr_tree index.now)) ≤ most_instructions }
-    ensures emitted { OnOk result
-        (EmitsAccess emitter.now mode (home_in array) mask to (expr_tree index.now) out.old out.new) }
+    ensures emitted { OnOk result (EmitsAccess emitter.now access.mode (home_in access.array) access.mask access.to
+        (expr_tree index.now) out.old out.new) }
     ensures words { OnOk result (HasWords (expr_tree index.now)) }
     ensures grows { CodeGrows out.old out.new }
 {
+    let Access { array, to, .. } = access;
     match fixed_index(array, index) {
-        Some(number) => { put_fixed_access(emitter, out, array, number, to, mode, mask) }
+        Some(number) => put_fixed_access(emitter, out, access, number),
         None => {
-            let held = index_operand(emitter, mode, array, index);
-            put_operand(emitter, out, index, held, to, mode, mask)?;
+            let held = index_operand(emitter, access.mode, array, index);
+            put_operand(emitter, out, index, held, to, access.mode, access.mask)?;
             let from = operand_register(held, to);
-            put_found_access(emitter, out, array, index, to, from, mode, mask)
+            put_found_access(emitter, out, access, index, from)
         }
     }
 }

@@ -54,6 +54,9 @@ pub enum Mode {
     Mirrored,
 }
 
+/// What appending code returns: the only error is want of memory.
+pub(crate) type PutResult = Result<(), Memory>;
+
 /// Code that is being made, and its notes, in order of place.
 #[derive(Debug, Drop)]
 pub struct CodeBuf {

@@ -8,11 +8,10 @@ ghost use Rattle.block_cache_gen.specs.Variables.{home_in};
 
 use crate::accesses::{is_masked, unmarked};
 use crate::emitter::Emitter;
-use crate::frames::CodeBuf;
+use crate::frames::{CodeBuf, PutResult};
 use crate::operands::operand_register;
 use crate::variables::Variable;
 use bank_alloc::Place;
-use gr_base::Memory;
 use gr_word::{Cmp, Label, Op};
 use lt_isa::{Instr, Note};
 
@@ -46,7 +45,7 @@ pub(crate) fn put_note_behind(
     emitter: &Emitter<'_, '_, '_>,
     out: &mut CodeBuf,
     secrets: u32,
-) -> Result<(), Memory>
+) -> PutResult
     requires { length out.old.code.items < 2 ^ 32 }
     ensures appended { OnOk result (Appended out.old out.new [] (λ place. note_of emitter.now secrets place ∷ [])) }
     ensures grows { CodeGrows out.old out.new }
@@ -74,7 +73,7 @@ pub(crate) fn put_numbered(
     emitter: &Emitter<'_, '_, '_>,
     out: &mut CodeBuf,
     index: Indexed,
-) -> Result<(), Memory>
+) -> PutResult
     requires registers { index.to + 2 < 19 }
     requires room { length out.old.code.items + 6 < 2 ^ 32 }
     ensures appended { OnOk result
@@ -82,8 +81,8 @@ pub(crate) fn put_numbered(
     ensures grows { CodeGrows out.old out.new }
 {
     match index.numbering {
-        Numbering::Compared => put_compared(emitter, out, index.array, index.to, index.mask),
-        Numbering::Reduced => put_reduced(emitter, out, index.array, index.to, index.from),
+        Numbering::Compared => put_compared(emitter, out, index),
+        Numbering::Reduced => put_reduced(emitter, out, index),
         Numbering::Within => out.put(&[]),
     }
 }
@@ -96,19 +95,14 @@ fn lowered_length(array: Variable) -> i64
 }
 
 // Appends the same, where the remainder is taken only of an index that isn't below the length, and a note after it.
-fn put_compared(
-    emitter: &Emitter<'_, '_, '_>,
-    out: &mut CodeBuf,
-    array: Variable,
-    to: u8,
-    mask: u32,
-) -> Result<(), Memory>
-    requires registers { to + 2 < 19 }
+fn put_compared(emitter: &Emitter<'_, '_, '_>, out: &mut CodeBuf, index: Indexed) -> PutResult
+    requires registers { index.to + 2 < 19 }
     requires room { length out.old.code.items + 6 < 2 ^ 32 }
-    ensures appended { OnOk result (Appended out.old out.new (compared_code (home_in array) to)
-        (λ place. note_of emitter.now (unmarked mask to) (place + 6) ∷ [])) }
+    ensures appended { OnOk result (Appended out.old out.new (compared_code (home_in index.array) index.to)
+        (λ place. note_of emitter.now (unmarked index.mask index.to) (place + 6) ∷ [])) }
     ensures grows { CodeGrows out.old out.new }
 {
+    let Indexed { array, to, .. } = index;
     out.put(&[
         Instr::Li {
             rd: to + 1,
@@ -141,7 +135,7 @@ fn put_compared(
             rb: to + 1,
         },
     ])?;
-    put_note_behind(emitter, out, unmarked(mask, to))
+    put_note_behind(emitter, out, unmarked(index.mask, to))
 }
 
 /// Appends an operation on a register and a number, whose result is in register `to`. If no register holds the number
@@ -154,7 +148,7 @@ pub(crate) fn put_applied(
     from: u8,
     own: u8,
     number: i64,
-) -> Result<(), Memory>
+) -> PutResult
     ensures appended { OnOk result (Appended out.old out.new (applied_code emitter.now op to from own number) no_notes) }
     ensures grows { CodeGrows out.old out.new }
 {
@@ -211,24 +205,13 @@ pub fn reducer_at(place: Place) -> i64
 }
 
 // The index in a register becomes the number of the word.
-fn put_reduced(
-    emitter: &Emitter<'_, '_, '_>,
-    out: &mut CodeBuf,
-    array: Variable,
-    to: u8,
-    from: u8,
-) -> Result<(), Memory>
-    requires registers { to + 2 < 19 }
-    ensures appended { OnOk result (Appended out.old out.new (reduced_code emitter.now (home_in array) to from) no_notes) }
+fn put_reduced(emitter: &Emitter<'_, '_, '_>, out: &mut CodeBuf, index: Indexed) -> PutResult
+    requires registers { index.to + 2 < 19 }
+    ensures appended { OnOk result
+        (Appended out.old out.new (reduced_code emitter.now (home_in index.array) index.to index.from) no_notes) }
     ensures grows { CodeGrows out.old out.new }
 {
-    put_applied(
-        emitter,
-        out,
-        reducing(array),
-        to,
-        from,
-        to + 1,
-        reducer(array),
-    )
+    let op = reducing(index.array);
+    let number = reducer(index.array);
+    put_applied(emitter, out, op, index.to, index.from, index.to + 1, number)
 }

@@ -8,14 +8,13 @@ ghost use Rattle.block_cache_gen.specs.Emitted.{Appended, EmitsGuard, EmitsSet, 
 ghost use Rattle.block_cache_gen.specs.Variables.{home_in};
 ghost use Rattle.block_cache_gen.specs.TreeWords.{HasWords, SetHasWords, TestHasWords};
 
-use crate::accesses::{marked_by, put_copy};
+use crate::accesses::{Access, marked_by, put_copy};
 use crate::elements::{put_store, put_stored};
 use crate::emitter::{Emitter, label_of};
 use crate::expressions::{put_access, put_expr, put_operand};
-use crate::frames::{CodeBuf, Mode};
+use crate::frames::{CodeBuf, Mode, PutResult};
 use crate::operands::{StraightOperation, operand, operand_mask, operand_register, straight};
 use crate::variables::Variable;
-use gr_base::Memory;
 use gr_word::{Name, Op};
 use lt_isa::Instr;
 use src_tree::{Expr, Guard, Stmt};
@@ -28,7 +27,7 @@ pub fn put_guard<'a>(
     g: &'a Guard,
     to: u8,
     mode: Mode,
-) -> Result<(), Memory>
+) -> PutResult
     requires typed { TypedTest (context_of emitter.now.decls) (test_of g.now) }
     requires left { to + height_of (expr_tree g.now.left) ≤ 17 }
     requires right { to + 1 + height_of (expr_tree g.now.right) ≤ 17 }
@@ -54,16 +53,10 @@ fn target(mode: Mode, register: u8) -> u8
     }
 }
 
-// Appends the write of the value in a register to a scalar.
-fn put_write(
-    emitter: &Emitter<'_, '_, '_>,
-    out: &mut CodeBuf,
-    scalar: Variable,
-    value: u8,
-    mode: Mode,
-) -> Result<(), Memory>
+// Appends the write of the value in a register to a scalar, `once` as in [`put_store`].
+fn put_write(out: &mut CodeBuf, once: bool, scalar: Variable, value: u8, mode: Mode) -> PutResult
     ensures appended { OnOk result (Appended out.old out.new
-        (write_code emitter.now.reduces scalar.held scalar.label mode (home_in scalar) value) no_notes) }
+        (write_code once scalar.held scalar.label mode (home_in scalar) value) no_notes) }
     ensures grows { CodeGrows out.old out.new }
 {
     if let Some(register) = scalar.held {
@@ -73,7 +66,7 @@ fn put_write(
         rd: 1,
         value: i64::from(scalar.place.word),
     }])?;
-    put_store(out, emitter.reduces(), scalar.slot, value, mode)
+    put_store(out, once, scalar.slot, value, mode)
 }
 
 // Appends the code of an operation that leaves its result in a register.
@@ -85,7 +78,7 @@ fn put_straight<'a>(
     right: &'a Expr,
     to: u8,
     mode: Mode,
-) -> Result<(), Memory>
+) -> PutResult
     requires typed { TypedTree (context_of emitter.now.decls)
         (Operation op (expr_tree left.now) (expr_tree right.now)) }
     requires low { height_of (Operation op (expr_tree left.now) (expr_tree right.now)) ≤ 17 }
@@ -118,7 +111,7 @@ pub fn put_set_variable<'a>(
     name: &'a Name,
     value: &'a Expr,
     mode: Mode,
-) -> Result<(), Memory>
+) -> PutResult
     requires typed { (code : Label)
         × TypedStatement (context_of emitter.now.decls) code (SetVariable name.now (expr_tree value.now)) }
     requires low { LowStatement (SetVariable name.now (expr_tree value.now)) }
@@ -143,7 +136,8 @@ pub fn put_set_variable<'a>(
     let base = emitter.base_mask();
     let held = operand(emitter, value);
     put_operand(emitter, out, value, held, 0, mode, base)?;
-    put_write(emitter, out, scalar, operand_register(held, 0), mode)
+    let value = operand_register(held, 0);
+    put_write(out, emitter.reduces(), scalar, value, mode)
 }
 
 /// Appends the code of an assignment to an element. The block is stored at once. It serves `branch_padding` and
@@ -155,7 +149,7 @@ pub fn put_set_element<'a>(
     index: &'a Expr,
     value: &'a Expr,
     mode: Mode,
-) -> Result<(), Memory>
+) -> PutResult
     requires typed { (code : Label) × TypedStatement (context_of emitter.now.decls) code
         (SetElement name.now (expr_tree index.now) (expr_tree value.now)) }
     requires low { LowStatement (SetElement name.now (expr_tree index.now) (expr_tree value.now)) }
@@ -171,7 +165,13 @@ pub fn put_set_element<'a>(
     let held = operand(emitter, value);
     put_operand(emitter, out, value, held, 0, mode, base)?;
     let mask = operand_mask(held, label_of(emitter, value), base, 0);
-    put_access(emitter, out, array, index, 1, mode, mask)?;
+    let access = Access {
+        array,
+        to: 1,
+        mode,
+        mask,
+    };
+    put_access(emitter, out, access, index)?;
     put_stored(emitter, out, array, index, operand_register(held, 0), mode)
 }
 
@@ -181,7 +181,7 @@ pub(crate) fn put_set<'a>(
     out: &mut CodeBuf,
     s: &'a Stmt,
     mode: Mode,
-) -> Result<(), Memory>
+) -> PutResult
     requires assignment { IsAssignment (statement_of s.now) }
     requires typed { (code : Label) × TypedStatement (context_of emitter.now.decls) code (statement_of s.now) }
     requires low { LowStatement (statement_of s.now) }

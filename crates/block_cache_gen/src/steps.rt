@@ -16,17 +16,8 @@ pub(crate) fn is_product(op: Op) -> bool
     ensures { result ≡ is_product op }
 {
     match op {
-        Op::Add => false,
-        Op::Sub => false,
-        Op::Mul => true,
-        Op::Div => true,
-        Op::Rem => true,
-        Op::Remu => true,
-        Op::And => false,
-        Op::Or => false,
-        Op::Xor => false,
-        Op::Shl => false,
-        Op::Shr => false,
+        Op::Mul | Op::Div | Op::Rem | Op::Remu => true,
+        Op::Add | Op::Sub | Op::And | Op::Or | Op::Xor | Op::Shl | Op::Shr => false,
     }
 }
 

@@ -35,10 +35,6 @@ pub grows-longer : (a b : CodeBuf) → CodeGrows a b → length a.code.items ≤
 grows-longer a b grows =
     omega (arith, ap length grows.code.1, length-append a.code.items grows.code.0)
 
--- three pieces in sequence
-pub grows_thrice : (a b c d : CodeBuf) → CodeGrows a b → CodeGrows b c → CodeGrows c d → CodeGrows a d
-grows_thrice a b c d one two three = grows_then a c d (grows_then a b c one two) three
-
 -- an instruction after a prefix is set when more follows it
 pub branch-grows : (out before behind more marked : CodeBuf) (at : ℕ) (i : Instr) → CodeGrows out before
     → CodeGrows out behind

@@ -16,6 +16,7 @@ use Rattle.stretches.proofs.Standing.{standing-first, standing-head, standing-ta
 use Rattle.block_cache_gen.specs.Prelude.{Setting, HasHomes, Loads, no_loads, then_loads}
 use Rattle.block_cache_gen.proofs.ArmAssignments.{Goes}
 use Rattle.block_cache_gen.proofs.ArmStates.{then_loads-held}
+use Rattle.block_cache_gen.proofs.Ranged.{homes-same}
 use Rattle.branch_padding.specs.Prelude.{quiet_cost, added, quiet_cycles}
 
 pub same_number : (m n : ℕ) → ◌≡◌ {A = Option ℕ} (Some m) (Some n) → m ≡ n
@@ -93,43 +94,11 @@ quiet-walk o depth end p s pattern t (Across d e p' s' cmp ra rb offset shown jo
 
 -- an object that has only this code, with the same memory
 abbrev pub object_of : Parts → List Instr → Parts
-object_of o code = record {
-  profile = o.profile;
-  banks = o.banks;
-  symbols = o.symbols;
-  notes = [];
-  code = code ++ Halt ∷ [];
-}
+object_of o code = record o { notes = []; code = code ++ Halt ∷ [] }
 
 -- it has the same homes
 pub homes-in : (o : Parts) (f : Setting) (code : List Instr) → HasHomes o f → HasHomes (object_of o code) f
-homes-in o f code homes = record {
-  profile = homes.profile;
-  banks = homes.banks;
-  blocks = homes.blocks;
-  count = homes.count;
-  scalars = homes.scalars;
-  residents = homes.residents;
-  arrays = λ x label declared is.
-      let home = homes.arrays x label declared is in
-      record {
-        bank = home.bank;
-        plain = home.plain;
-        single = home.single;
-        slot = home.slot;
-        unpinned = home.unpinned;
-        apart = home.apart;
-        word = home.word;
-        length = home.length;
-        inside = home.inside;
-      };
-  pins = λ slot p is.
-      let pin = homes.pins slot p is in
-      record { few = pin.few; apart = pin.apart; bank = pin.bank; block = pin.block };
-  pins_apart = homes.pins_apart;
-  held = homes.held;
-  apart = homes.apart;
-}
+homes-in o f code homes = homes-same o f [] (code ++ Halt ∷ []) f.held f.ranges homes.held homes
 
 -- and there the code is in an arm
 alone : (o : Parts) (code : List Instr) → StandsInArm (object_of o code) 0 code

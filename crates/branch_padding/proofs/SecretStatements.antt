@@ -34,48 +34,47 @@ arm-secret modes.Mirrored = refl
 
 module _ (o : Parts) (f : Setting) (homes : HasHomes o f) where
   -- statements that pair show the same and leave the same
-  pair-shows_of : (s t : Statement) → Pair f s t → TypedStatement (context_of f.decls) Secret s
-      → TypedStatement (context_of f.decls) Secret t → shows_of f s ≡ shows_of f t
-  pair-shows_of s t (ToScalars x y e g one both alike) left right =
-      pair-shows o f homes (SetVariable x e) (SetVariable y g) (ToScalars x y e g one both alike) left right
-  pair-shows_of s t (ToOblivious x y i j e g one index value) left right =
-      pair-shows o f homes (SetElement x i e) (SetElement y j g) (ToOblivious x y i j e g one index value) left right
-  pair-shows_of s t (ToResidents x y i j e g one index value) left right =
-      pair-shows o f homes (SetElement x i e) (SetElement y j g) (ToResidents x y i j e g one index value) left right
-  pair-shows_of s t (ToSame x i e g encrypted value) left right =
-      pair-shows o f homes (SetElement x i e) (SetElement x i g) (ToSame x i e g encrypted value) left right
+  abbrev AreSame : Statement → Statement → Type 0
+  AreSame s t = (shows_of f s ≡ shows_of f t) × (slots_of f s ≡ slots_of f t)
 
-  pair-slots_of : (s t : Statement) → Pair f s t → TypedStatement (context_of f.decls) Secret s
-      → TypedStatement (context_of f.decls) Secret t → slots_of f s ≡ slots_of f t
-  pair-slots_of s t (ToScalars x y e g one both alike) left right =
-      pair-slots o f homes (SetVariable x e) (SetVariable y g) (ToScalars x y e g one both alike) left right
-  pair-slots_of s t (ToOblivious x y i j e g one index value) left right =
-      pair-slots o f homes (SetElement x i e) (SetElement y j g) (ToOblivious x y i j e g one index value) left right
-  pair-slots_of s t (ToResidents x y i j e g one index value) left right =
-      pair-slots o f homes (SetElement x i e) (SetElement y j g) (ToResidents x y i j e g one index value) left right
-  pair-slots_of s t (ToSame x i e g encrypted value) left right =
-      pair-slots o f homes (SetElement x i e) (SetElement x i g) (ToSame x i e g encrypted value) left right
+  pair-same : (s t : Statement) → Pair f s t → TypedStatement (context_of f.decls) Secret s
+      → TypedStatement (context_of f.decls) Secret t → AreSame s t
+  pair-same s t (ToScalars x y e g one both alike) left right =
+      let pair = ToScalars x y e g one both alike in (
+        pair-shows o f homes (SetVariable x e) (SetVariable y g) pair left right,
+        pair-slots o f homes (SetVariable x e) (SetVariable y g) pair left right,
+      )
+  pair-same s t (ToOblivious x y i j e g one index value) left right =
+      let pair = ToOblivious x y i j e g one index value in (
+        pair-shows o f homes (SetElement x i e) (SetElement y j g) pair left right,
+        pair-slots o f homes (SetElement x i e) (SetElement y j g) pair left right,
+      )
+  pair-same s t (ToResidents x y i j e g one index value) left right =
+      let pair = ToResidents x y i j e g one index value in (
+        pair-shows o f homes (SetElement x i e) (SetElement y j g) pair left right,
+        pair-slots o f homes (SetElement x i e) (SetElement y j g) pair left right,
+      )
+  pair-same s t (ToSame x i e g encrypted value) left right =
+      let pair = ToSame x i e g encrypted value in (
+        pair-shows o f homes (SetElement x i e) (SetElement x i g) pair left right,
+        pair-slots o f homes (SetElement x i e) (SetElement x i g) pair left right,
+      )
 
   -- so do the first statements of two parts that pair
-  paired-shows : (k : ℕ) (a b : Block) → StartsPaired f k a b → TypedBlock (context_of f.decls) Secret a
-      → TypedBlock (context_of f.decls) Secret b → take k (shows_of_each f a) ≡ take k (shows_of_each f b)
-  paired-shows k a b (NonePaired a' b') left right = refl
-  paired-shows k a b (OnePaired n s t c d pair rest) left right =
+  paired-same : (k : ℕ) (a b : Block) → StartsPaired f k a b → TypedBlock (context_of f.decls) Secret a
+      → TypedBlock (context_of f.decls) Secret b
+      → (take k (shows_of_each f a) ≡ take k (shows_of_each f b))
+      × (take k (slots_of_each f a) ≡ take k (slots_of_each f b))
+  paired-same k a b (NonePaired a' b') left right = (refl, refl)
+  paired-same k a b (OnePaired n s t c d pair rest) left right =
       let next : suc n ≡ n + 1 = omega arith in
-      let one = pair-shows_of s t pair left.0 right.0 in
-      let more = paired-shows n c d rest left.1 right.1 in
-      subst (λ (m : ℕ). take m (shows_of f s ∷ shows_of_each f c) ≡ take m (shows_of f t ∷ shows_of_each f d)) next
-      (λ i. one i ∷ more i)
-
-  paired-slots : (k : ℕ) (a b : Block) → StartsPaired f k a b → TypedBlock (context_of f.decls) Secret a
-      → TypedBlock (context_of f.decls) Secret b → take k (slots_of_each f a) ≡ take k (slots_of_each f b)
-  paired-slots k a b (NonePaired a' b') left right = refl
-  paired-slots k a b (OnePaired n s t c d pair rest) left right =
-      let next : suc n ≡ n + 1 = omega arith in
-      let one = pair-slots_of s t pair left.0 right.0 in
-      let more = paired-slots n c d rest left.1 right.1 in
-      subst (λ (m : ℕ). take m (slots_of f s ∷ slots_of_each f c) ≡ take m (slots_of f t ∷ slots_of_each f d)) next
-      (λ i. one i ∷ more i)
+      let one = pair-same s t pair left.0 right.0 in
+      let more = paired-same n c d rest left.1 right.1 in (
+        subst (λ (m : ℕ). take m (shows_of f s ∷ shows_of_each f c) ≡ take m (shows_of f t ∷ shows_of_each f d)) next
+            (λ i. one.0 i ∷ more.0 i),
+        subst (λ (m : ℕ). take m (slots_of f s ∷ slots_of_each f c) ≡ take m (slots_of f t ∷ slots_of_each f d)) next
+            (λ i. one.1 i ∷ more.1 i),
+      )
 
   -- the mirrored arms of a branch, of parts whose statements go
   module _ (depth : ℕ) (a b : Block) where
@@ -97,13 +96,13 @@ module _ (o : Parts) (f : Setting) (homes : HasHomes o f) where
         let shows : shown_in_a_row (take k ys) ++ (shown_in_a_row (drop k xs) ++ shown_in_a_row (drop k ys))
         ≡ mirrored_shows f a b =
         ap (λ (z : List (List Show)). shown_in_a_row z ++ (shown_in_a_row (drop k xs) ++ shown_in_a_row (drop k ys)))
-        (sym (paired-shows k a b paired left right)) ∙ sym (shown-rests k xs ys) in
+        (sym (paired-same k a b paired left right).0) ∙ sym (shown-rests k xs ys) in
         let loads : then_loads (loaded_in_a_row (take k ms))
         (then_loads (loaded_in_a_row (drop k ls)) (loaded_in_a_row (drop k ms)))
         ≡ mirrored_loads f a b =
         ap (λ (z : List Loads).
         then_loads (loaded_in_a_row z) (then_loads (loaded_in_a_row (drop k ls)) (loaded_in_a_row (drop k ms))))
-        (sym (paired-slots k a b paired left right)) ∙ sym (loaded-rests k ls ms) in
+        (sym (paired-same k a b paired left right).1) ∙ sym (loaded-rests k ls ms) in
         subst (λ (z : List Show).
         GoesAnywhere o f depth (untaken_arm k second first_mirrored) z (mirrored_loads f a b)) shows
         (subst (λ (z : Loads).

@@ -10,7 +10,7 @@ use Rattle.src_tree.specs.declared.trees.Decl.{Decl}
 use Rattle.src_tree.specs.Prelude.{Tree, Number, Variable, Element, Operation, Test, Statement, SetVariable, SetElement, Choice, Loop, Block, Nothing, Then, Context, context_of, label_of_test, tree_weight, test_weight, parts_weight, statement_weight, block_weight}
 use Rattle.block_cache_gen.specs.declared.frames.CodeBuf.{CodeBuf}
 use Rattle.block_cache_gen.specs.declared.frames.Mode.TheVariants.{Public}
-use Rattle.block_cache_gen.specs.Prelude.{Setting, expr_code, guard_code, set_code, guard_notes, set_notes, Appended, no_notes, EmitsGuard, EmitsSet, BlockHasWords, TestHasWords}
+use Rattle.block_cache_gen.specs.Prelude.{Setting, expr_code, guard_code, set_code, guard_notes, set_notes, Appended, no_notes, EmitsGuard, EmitsSet, BlockHasWords, StatementHasWords, TestHasWords}
 use Rattle.block_cache_gen.proofs.Emitting.{appended_then, appended_length}
 use Rattle.block_cache_gen.proofs.Sizes.{expr_code_short, set_code_short}
 use Rattle.branch_padding.specs.Prelude.{after, behind_loop, within_loop}
@@ -200,7 +200,15 @@ loop-emitted f t body a b c d e old start noted is_start is_noted x y z w =
           ++ (guard_note f code (block_ends_noted f.decls body) n ++ guard_notes behind 0 n t)))) at_guard;
     }
 
--- a loop is put if its guard closes it
+-- a statement is put if what was emitted for it is short
+pub puts-short : {T E : Type 0} (f : Setting) (s : Statement) (a b : CodeBuf) (r : Result T E)
+    → (EmitsStatement f s a b
+    → length b.code.items ≤ length a.code.items + 120 * statement_weight (context_of f.decls) label.Public s)
+    → OnOk r (EmitsStatement f s a b) → OnOk r (StatementHasWords s) → OnOk r (Puts f s a b)
+puts-short f s a b (Ok x) short made words = record { emitted = made; short = short made; words = words }
+puts-short f s a b (Err x) short made words = tt
+
+-- the code of a loop is complete once its guard closes it
 pub puts-closed : {T E P : Type 0} (f : Setting) (t : Test) (body : Block) (a d e : CodeBuf) (r : Result T E)
     → length d.code.items
     ≤ length a.code.items + 2 + 120 * block_weight (context_of f.decls) label.Public body

@@ -1,6 +1,6 @@
 -- Runs of the code that stores the scalars that registers hold: afterwards the machine represents the same store with
 -- each scalar in its slot.
-use Rattle.std.proofs.Common.{◌≡◌, ◌≢◌, ℕ, zero, suc, ◌+◌, ◌-◌, ◌%◌, ◌<◌, ◌≤◌, Bool, true, false, ℤ, pos, List, [], ◌∷◌, ◌++◌, length, get_or, set, append_assoc, length-append, Option, Some, None, refl, sym, ap, ◌∙◌, subst, ⊎_elim, arith, mod-eq_of_lt, pow_pos, inl, inr}
+use Rattle.std.proofs.Common.{◌≡◌, ◌≢◌, ℕ, zero, suc, ◌+◌, ◌-◌, ◌%◌, ◌<◌, ◌≤◌, Bool, true, false, ℤ, pos, List, [], ◌∷◌, ◌++◌, length, get_or, set, append_assoc, length-append, Option, Some, None, refl, sym, ap, ◌∙◌, subst, ⊎_elim, arith, mod-eq_of_lt, pow_pos}
 use Rattle.std.specs.Prelude.{nat_lt, if◌then◌else◌}
 use Rattle.std.specs.List.{slice_get}
 use Rattle.std.proofs.lemmas.Bool.{cases_eq, le-ltb, ltb-false}
@@ -25,6 +25,7 @@ use Rattle.block_cache_gen.proofs.HeldBeginning.{HasName, unheld, held-name}
 use Rattle.block_cache_gen.proofs.HeldScalars.{array-free, held-listed, held-words, scalar-found}
 use Rattle.block_cache_gen.proofs.HomeFacts.{block_words-is}
 use Rattle.block_cache_gen.proofs.WordSlots.{one-block, single-word}
+use Rattle.block_cache_gen.proofs.Ranged.{homes-same}
 use Rattle.block_cache_gen.proofs.ResidentStores.{stands-single_set}
 use Rattle.block_cache_gen.proofs.Stands.{stands-like, stands-set}
 use Rattle.block_cache_gen.proofs.Stores.{fits-with_word, with_word-itself, words-other, words-same}
@@ -148,46 +149,7 @@ with_held f held = record f { held = held }
 
 pub homes-with : {o : Parts} {f : Setting} (held : List Held) → IsSoundHeld f.decls held → HasHomes o f
     → HasHomes o (with_held f held)
-homes-with held sound homes = record {
-  profile = homes.profile;
-  banks = homes.banks;
-  blocks = homes.blocks;
-  count = homes.count;
-  scalars = homes.scalars;
-  residents = λ x label shape known resident.
-      let home = homes.residents x label shape known resident in
-      record {
-        bank = home.bank;
-        pinned = home.pinned;
-        length = home.length;
-        blocks =
-            ⊎_elim (λ one. inl (record { single = one.single; inside = one.inside }))
-            (λ spread. inr (record {
-              secret = spread.secret;
-              word = spread.word;
-              inside = spread.inside;
-              pinned = spread.pinned;
-            }))
-            home.blocks;
-      };
-  arrays = λ x label known turn.
-      let home = homes.arrays x label known turn in
-      record {
-        bank = home.bank;
-        plain = home.plain;
-        single = home.single;
-        slot = home.slot;
-        unpinned = home.unpinned;
-        apart = home.apart;
-        word = home.word;
-        length = home.length;
-        inside = home.inside;
-      };
-  pins = homes.pins;
-  pins_apart = homes.pins_apart;
-  held = sound;
-  apart = homes.apart;
-}
+homes-with {o} {f} held sound homes = homes-same o f o.notes o.code held f.ranges sound homes
 
 fits-with : {f : Setting} {store : Store} (held : List Held) → FitsHomes f store → FitsHomes (with_held f held) store
 fits-with held fits = record { count = fits.count; lengths = fits.lengths; all_words = fits.all_words }

@@ -1,6 +1,5 @@
 -- The public code of a choice with two blocks, made of that of its parts: where its notes are, and that it is passed.
 use Rattle.std.proofs.Common.{◌≡◌, ℕ, ◌+◌, ◌<◌, ◌≤◌, Bool, true, pos, List, ◌∷◌, ◌++◌, length, length-append, inl, inr, Some, None, refl, sym, ap, ◌∙◌, subst, arith}
-use Rattle.std.specs.Prelude.{if◌then◌else◌}
 use Rattle.std.specs.Option.{option_map}
 use Rattle.lt_isa.specs.declared.symbols.Note.{Note}
 use Rattle.lt_isa.specs.declared.instructions.Instr.{Instr}
@@ -15,7 +14,7 @@ use Rattle.block_cache_gen.specs.Prelude.{Setting, HasHomes, guard_code, guard_n
 use Rattle.block_cache_gen.proofs.PublicGuards.{guard-lie}
 use Rattle.block_cache_gen.proofs.RangesOfNotes.{base_mask-below, NotesRise, rise-wider, rise-then, guard-rises}
 use Rattle.code_gen.specs.Prelude.{opposite, choice_code, head_note}
-use Rattle.code_gen.proofs.PassedParts.{head_claim, IsOpenAt, IsPassed, IsNoted, rise-lies, closed, closed_by, closed_other, closed_found, closed_rises, end-open, head-carries, stands-as}
+use Rattle.code_gen.proofs.PassedParts.{ended-at, head_claim, IsOpenAt, IsPassed, IsNoted, rise-lies, closed, closed_by, closed_other, closed_found, closed_rises, end-open, head-carries, stands-as}
 use Rattle.code_gen.proofs.PassedBranches.{PassesGuards, guard-longer, branch-on, jump-away}
 
 module _ (f : Setting) (t : Test) (xs : List Instr) (first : ℕ → List Note) (one : Bool) (left : IsNoted f xs first one)
@@ -56,13 +55,6 @@ module _ (f : Setting) (t : Test) (xs : List Instr) (first : ℕ → List Note) 
       let size : length behind ≡ length xs + (length ys + 1) = length-append xs jump ∙ omega arith in
       omega (arith, length-append (guard_code f Public 0 t) (Br (opposite t.cmp) 0 1 (pos (length xs + 2)) ∷ behind))
 
-  second_end : (p : ℕ)
-      → note_of_place (second (second_at p)) (end_at p) ≡ (if two then Some (head_note f (end_at p)) else None)
-  second_end p =
-      let same : second_at p + length ys ≡ end_at p = omega arith in
-      subst (λ (q : ℕ). note_of_place (second (second_at p)) q ≡ (if two then Some (head_note f q) else None)) same
-      (right.ended (second_at p))
-
   second_rises : (p : ℕ) → NotesRise f (head_at p + 1) (end_at p + 1) (second (second_at p))
   second_rises p =
       rise-wider f (second_at p + 1) (second_at p + length ys + 1) (head_at p + 1) (end_at p + 1) (second (second_at p))
@@ -72,7 +64,8 @@ module _ (f : Setting) (t : Test) (xs : List Instr) (first : ℕ → List Note) 
   tail_rises p = (
     (omega arith, omega arith),
     (base_mask-below f, refl),
-    closed_rises f (second (second_at p)) two (head_at p + 1) (end_at p) (omega arith) (second_rises p) (second_end p),
+    closed_rises f (second (second_at p)) two (head_at p + 1) (end_at p) (omega arith) (second_rises p)
+        (ended-at right (second_at p) (end_at p) (omega arith)),
   )
 
   body_rises : (p : ℕ) → NotesRise f (body_at p) (end_at p + 1) (body_notes p)
@@ -140,7 +133,8 @@ module _ (f : Setting) (t : Test) (xs : List Instr) (first : ℕ → List Note) 
 
   at_end : (p : ℕ) → note_of_place (all_notes p) (end_at p) ≡ Some (head_note f (end_at p))
   at_end p =
-      in_second p (end_at p) (omega arith) ∙ closed_by f (second (second_at p)) two (end_at p) (second_end p)
+      in_second p (end_at p) (omega arith) ∙ closed_by f (second (second_at p)) two (end_at p)
+      (ended-at right (second_at p) (end_at p) (omega arith))
 
   -- the notes of a choice of two blocks are within its code
   pub double-noted : IsNoted f double all_notes true

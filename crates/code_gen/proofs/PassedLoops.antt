@@ -18,7 +18,7 @@ use Rattle.block_cache_gen.proofs.Ranged.{carries-ranged}
 use Rattle.block_cache_gen.proofs.PublicGuards.{guard-lie}
 use Rattle.block_cache_gen.proofs.RangesOfNotes.{base_mask-below, NotesRise, rise-wider, rise-then, guard-rises}
 use Rattle.code_gen.specs.Prelude.{loop_code, guard_note, head_note}
-use Rattle.code_gen.proofs.PassedParts.{head_claim, IsOpenAt, IsPassed, IsNoted, rise-lies, closed_by, closed_other, closed_rises, head-carries, stands-as}
+use Rattle.code_gen.proofs.PassedParts.{ended-at, head_claim, IsOpenAt, IsPassed, IsNoted, rise-lies, closed_by, closed_other, closed_rises, head-carries, stands-as}
 use Rattle.code_gen.proofs.RangedParts.{rise-ranged}
 use Rattle.code_gen.proofs.PassedBranches.{PassesGuards, guard-longer, branch-on, jump-away}
 
@@ -84,18 +84,12 @@ module _ (f : Setting) (ranges : Ranges) (t : Test) (xs : List Instr) (first : �
   regrouped p = sym (append_assoc (first (body_at p)) (guard_note f xs one (guard_at p)) (guard_notes guarded 0
       (guard_at p) t))
 
-  body_end : (p : ℕ)
-      → note_of_place (first (body_at p)) (guard_at p) ≡ (if one then Some (head_note f (guard_at p)) else None)
-  body_end p =
-      let same : body_at p + length xs ≡ guard_at p = omega arith in
-      subst (λ (q : ℕ). note_of_place (first (body_at p)) q ≡ (if one then Some (head_note f q) else None)) same
-      (left.ended (body_at p))
-
   closing_rise : (p : ℕ) → NotesRise f (body_at p + 1) (guard_at p + 1) (closing p)
   closing_rise p =
       closing_rises f xs (first (body_at p)) one (body_at p + 1) (guard_at p) (omega arith) (λ some. omega arith)
       (rise-wider f (body_at p + 1) (body_at p + length xs + 1) (body_at p + 1) (guard_at p + 1) (first (body_at p))
-      (omega arith) (omega arith) (left.rises (body_at p))) (body_end p)
+      (omega arith) (omega arith) (left.rises (body_at p)))
+      (ended-at left (body_at p) (guard_at p) (omega arith))
 
   closing_lies : (p : ℕ) → LieBetween (body_at p) (guard_at p + 1) (closing p)
   closing_lies p =
@@ -132,7 +126,8 @@ module _ (f : Setting) (ranges : Ranges) (t : Test) (xs : List Instr) (first : �
   at_guard p =
       ⊎_elim
       (λ (some : 0 < length xs). in_closing p (guard_at p) (omega arith) (omega arith)
-      ∙ closing_at f xs (first (body_at p)) one (guard_at p) (omega arith) (body_end p))
+      ∙ closing_at f xs (first (body_at p)) one (guard_at p) (omega arith)
+      (ended-at left (body_at p) (guard_at p) (omega arith)))
       (λ (none : length xs ≤ 0).
       let same : body_at p ≡ guard_at p = omega arith in
       subst (λ (q : ℕ). note_of_place (all_notes p) q ≡ Some (head_note f q)) same (at_body p))

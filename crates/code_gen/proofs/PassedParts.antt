@@ -49,6 +49,13 @@ pub record IsNoted (f : Setting) (code : List Instr) (notes : ℕ → List Note)
   pub ended : (p : ℕ)
       → note_of_place (notes p) (p + length code) ≡ (if ends then Some (head_note f (p + length code)) else None)
 
+-- the note after the last instruction, at a place that is known otherwise
+pub ended-at : {f : Setting} {code : List Instr} {notes : ℕ → List Note} {ends : Bool} → IsNoted f code notes ends
+    → (p q : ℕ) → p + length code ≡ q
+    → note_of_place (notes p) q ≡ (if ends then Some (head_note f q) else None)
+ended-at {f = f} {notes = notes} {ends = ends} noted p q same =
+    subst (λ (r : ℕ). note_of_place (notes p) r ≡ (if ends then Some (head_note f r) else None)) same (noted.ended p)
+
 -- notes that rise are between their bounds
 pub rise-lies : (f : Setting) (low p q : ℕ) (notes : List Note) → p < low → NotesRise f low q notes
     → LieBetween p q notes

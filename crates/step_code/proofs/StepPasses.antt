@@ -47,10 +47,9 @@ module _ (o : Parts) (base : ℕ) (room : base + 2 < 32) where
       → ((i : ℕ) → i ≤ 2 → is_secret k (numbered base i) ≡ secret i)
       → (i : ℕ) → i ≤ 2 → is_secret (set_secret k (numbered base to) label) (numbered base i) ≡ replaced secret to is i
   labelled to label is secret k low size same held =
-      let rd = numbered base to in
-      let inside : rd < length k.secret = omega (arith, size, numbered-low base 2 to low room) in
-      set-own base 2 to is (is_secret k) (is_secret (set_secret k rd label)) secret
-      (secret-same k rd label inside ∙ same) (λ r other. secret-other k rd r label other) held
+      set-own base 2 to is (is_secret k) (is_secret (set_secret k (numbered base to) label)) secret
+      (secret-same k (numbered base to) label (omega (arith, size, numbered-low base 2 to low room)) ∙ same)
+      (λ r other. secret-other k (numbered base to) r label other) held
 
   pub passes-steps : (steps : List Step) (secret : ℕ → Bool) (p : ℕ) (k : Known)
       → All StepFits steps

@@ -43,10 +43,9 @@ module _ (o : Parts) (base most : ℕ) (room : base + most < 32) (Used : ℕ →
       → ((i : ℕ) → i ≤ most → is_secret k (numbered base i) ≡ secret i)
       → (i : ℕ) → i ≤ most → is_secret (set_secret k (numbered base to) label) (numbered base i) ≡ replaced secret to is i
   labelled to label is secret k low size same held =
-      let rd = numbered base to in
-      let inside : rd < length k.secret = omega (arith, size, numbered-low base most to low room) in
-      set-own base most to is (is_secret k) (is_secret (set_secret k rd label)) secret
-      (secret-same k rd label inside ∙ same) (λ r other. secret-other k rd r label other) held
+      set-own base most to is (is_secret k) (is_secret (set_secret k (numbered base to) label)) secret
+      (secret-same k (numbered base to) label (omega (arith, size, numbered-low base most to low room)) ∙ same)
+      (λ r other. secret-other k (numbered base to) r label other) held
 
   -- the other registers keep theirs
   relabelled : (to : ℕ) (label : Bool) (k : Known) → to ≤ most

@@ -76,7 +76,7 @@ put_expr-returns-in_ok-put_operand-in-Bin-clause-emitted t c =
 
 pub put_access-put_found_access-requires-clause-room : goal.put_access-put_found_access-requires-clause-room
 put_access-put_found_access-requires-clause-room t c =
-    room_for_found c.args.emitter.now c.args.mode c.args.mask c.args.to c.index_operand-held.result
+    room_for_found c.args.emitter.now c.args.access.mode c.args.access.mask c.args.access.to c.index_operand-held.result
     (expr_tree c.args.index.now) c.args.out.now c.put_operand.new.out c.requires.room
     c.in_ok-put_operand-in-None.ensures.emitted
 
@@ -84,7 +84,7 @@ pub put_access-returns-in-Some-clause-emitted : goal.put_access-returns-in-Some-
 put_access-returns-in-Some-clause-emitted t c =
     let same : to_z w64 (of_z w64 c.in-Some.number) ≡ c.in-Some.number = search (rules, wraps) in
     on_ok_weaker c.put_fixed_access.result
-    (access_fixed c.args.emitter.now c.args.mode (home_in c.args.array) c.args.mask c.args.to
+    (access_fixed c.args.emitter.now c.args.access.mode (home_in c.args.access.array) c.args.access.mask c.args.access.to
     (expr_tree c.args.index.now) (to_z w64 (of_z w64 c.in-Some.number)) c.args.out.now c.put_fixed_access.new.out
     (sym c.fixed_index.ensures.fixed ∙ c.in-Some.is ∙ ap (λ z. Some z) (sym same)))
     c.put_fixed_access.ensures.appended
@@ -93,10 +93,10 @@ pub put_access-returns-in_ok-put_operand-in-None-clause-emitted :
     goal.put_access-returns-in_ok-put_operand-in-None-clause-emitted
 put_access-returns-in_ok-put_operand-in-None-clause-emitted t c =
     on_ok_weaker c.put_found_access.result
-    (access_worked c.args.emitter.now c.args.mode (home_in c.args.array) c.args.mask c.args.to
+    (access_worked c.args.emitter.now c.args.access.mode (home_in c.args.access.array) c.args.access.mask c.args.access.to
     (expr_tree c.args.index.now) c.args.out.now c.put_operand.new.out c.put_found_access.new.out
     (sym c.fixed_index.ensures.fixed ∙ c.in-None.is)
-    (subst (λ q. EmitsOperand c.args.emitter.now c.args.mode c.args.mask c.args.to q (expr_tree c.args.index.now)
+    (subst (λ q. EmitsOperand c.args.emitter.now c.args.access.mode c.args.access.mask c.args.access.to q (expr_tree c.args.index.now)
     c.args.out.now c.put_operand.new.out) c.index_operand-held.ensures.register
     c.in_ok-put_operand-in-None.ensures.emitted))
     c.put_found_access.ensures.appended

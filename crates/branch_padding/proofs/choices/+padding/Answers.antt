@@ -5,11 +5,11 @@ use Rattle.lt_isa.specs.declared.instructions.Instr.{Instr}
 use Rattle.lt_isa.specs.declared.instructions.Instr.TheVariants.{Nop}
 use Rattle.src_tree.specs.Prelude.{context_of, LowStatement, statement_weight, block_weight, block_of_all, statement_of, test_of, TypedStatement}
 use Rattle.block_cache_gen.specs.Prelude.{Appended, no_notes, StatementHasWords}
-use Rattle.block_cache_gen.proofs.Emitting.{grows_then}
+use Rattle.block_cache_gen.proofs.Emitting.{grows_then, grows_thrice}
 use Rattle.branch_padding.specs.Prelude.{idle, padded_code, padded_codes, both_weights, HaveWords, row_between}
 use Rattle.branch_padding.proofs.EmittedRegions.{weight-at, choice-appended, first-made, second-made, idling-appended, typed-at, low-at, row-start, row-more, row-room, row-behind, taken-mirrored, untaken-appended, untaken-mirrored, taken-appended_whole}
 use Rattle.branch_padding.proofs.RegionLengths.{behind-branch, behind-untaken, parts-fit, guard-behind, idle-behind, one-behind, set-behind, taken-behind}
-use Rattle.branch_padding.proofs.GrowingRows.{appended-grows, branch-grows, grows_thrice, set-grows, grows-longer, words-none, words-more, words-both, words-all}
+use Rattle.branch_padding.proofs.GrowingRows.{appended-grows, branch-grows, set-grows, grows-longer, words-none, words-more, words-both, words-all}
 use Rattle.branch_padding.proofs.choices.+padding.Goals.{put_choice-In_ok-put_untaken, put_choice-After-set_branch, put_untaken-In_ok-put_idle}
 use Rattle.gr_word.specs.declared.variables.Label.TheVariants as label
 use Rattle.block_cache_gen.specs.declared.frames.Mode.TheVariants as modes
