@@ -1,5 +1,5 @@
 use Rattle.call_laws.proofs.Inferring.{no-notes}
-use Rattle.ghost_cli.proofs.infer.with_notes.Goals as goal
+use Rattle.ghost_cli.proofs.conversions.with_notes.Goals as goal
 
 pub returns-in-Err-clause-refused : goal.returns-in-Err-clause-refused
 returns-in-Err-clause-refused c =

@@ -1,47 +1,86 @@
-ghost use Rattle.std.specs.Prelude.{◌≡◌, IfErr, IfOk, List, ℕ, length};
+ghost use Rattle.std.specs.Prelude.{◌≡◌, IfErr, IfOk, List, ℕ, codes, length};
 ghost use Rattle.lt_isa.specs.Prelude.{IsInRange};
 ghost use Rattle.note_infer.specs.Prelude.{IsInferred};
-ghost use Rattle.command_words.specs.Prelude.{infer_asks};
-ghost use Rattle.call_laws.specs.Prelude.{infer_work, on_inferred};
+ghost use Rattle.call_laws.specs.Prelude.{assemble_work, disassemble_work, infer_work, on_inferred};
 ghost use Rattle.call_steps.specs.Prelude.{EndsWorkWith, SaysNotes, WhatIsInferred};
 ghost use Rattle.call_replies.specs.Prelude.{said};
 
 use call_replies::replies::{Done, Reply, Verdict};
-use call_steps::reading::find_object;
-use call_steps::two_names::{TwoNames, two_names};
-use call_steps::verbs::{Maker, NewFile, Request};
-use clap::ArgMatches;
-use command_words::options::value;
-use gr_base::Memory;
+use call_steps::reading::{find_assembly, find_object};
+use call_steps::two_names::{Conversion, TwoNames};
+use call_steps::verbs::{Made, Maker, NewFile};
 use gr_outside::Shelf;
+use lt_assembler::disassemble;
 use lt_isa::Object;
 use note_infer::InferError;
 use object_file::encode;
 use std::alloc::Global;
 
+/// The verb `asm TEXT OUT`: writes the object file of an assembly text.
+pub struct Assemble;
+
+impl Conversion for Assemble {
+    ghost converts = { assemble_work };
+
+    ghost source = { codes "TEXT" };
+
+    fn source_name() -> &'static str {
+        "TEXT"
+    }
+}
+
+impl<'a> Maker<'a> for Assemble {
+    fn make<F: Shelf>(alloc: Global, words: TwoNames<'a>, shelf: &mut F) -> Made<'a> {
+        let object = find_assembly(alloc, words.read, shelf)?;
+        let bytes = encode(alloc, &object)?;
+        Ok(NewFile {
+            name: words.written,
+            bytes,
+            done: Done::Assembled,
+        })
+    }
+}
+
+/// The verb `dis OBJ OUT`: writes the assembly text of a file's object.
+pub struct Disassemble;
+
+impl Conversion for Disassemble {
+    ghost converts = { disassemble_work };
+
+    ghost source = { codes "OBJ" };
+
+    fn source_name() -> &'static str {
+        "OBJ"
+    }
+}
+
+impl<'a> Maker<'a> for Disassemble {
+    fn make<F: Shelf>(alloc: Global, words: TwoNames<'a>, shelf: &mut F) -> Made<'a> {
+        let object = find_object(alloc, words.read, shelf)?;
+        let bytes = disassemble(alloc, &object)?;
+        Ok(NewFile {
+            name: words.written,
+            bytes,
+            done: Done::Disassembled,
+        })
+    }
+}
+
 /// The verb `infer OBJ OUT`: writes the object file of an object with its least notes instead of its own.
 pub struct Infer;
 
-impl<'a> Request<'a> for Infer {
-    type Words = TwoNames<'a>;
+impl Conversion for Infer {
+    ghost converts = { infer_work };
 
-    ghost asks = { infer_asks infer_work };
+    ghost source = { codes "OBJ" };
 
-    ghost work = { λ words. infer_work words.read.now words.written.now };
-
-    ghost Fits = { λ words. Unit {0} };
-
-    fn words(_alloc: Global, matches: &ArgMatches<'a>) -> Result<Option<TwoNames<'a>>, Memory> {
-        Ok(two_names(value(matches, "OBJ"), value(matches, "OUT")))
+    fn source_name() -> &'static str {
+        "OBJ"
     }
 }
 
 impl<'a> Maker<'a> for Infer {
-    fn make<F: Shelf>(
-        alloc: Global,
-        words: TwoNames<'a>,
-        shelf: &mut F,
-    ) -> Result<NewFile<'a>, Reply<'a>> {
+    fn make<F: Shelf>(alloc: Global, words: TwoNames<'a>, shelf: &mut F) -> Made<'a> {
         let object = find_object(alloc, words.read, shelf)?;
         let found = with_notes(alloc, &object)?;
         let count = note_count(&found);

@@ -1,5 +1,5 @@
 use Rattle.std.proofs.Common.{length, ap, arith}
-use Rattle.ghost_cli.proofs.infer.note_count.Goals as goal
+use Rattle.ghost_cli.proofs.conversions.note_count.Goals as goal
 
 pub overflow_cast-result : goal.overflow_cast-result
 overflow_cast-result c =

@@ -3,7 +3,7 @@ use Rattle.call_replies.specs.declared.replies.Done.TheVariants.{Inferred}
 use Rattle.call_laws.specs.Prelude.{infers_to, on_inferred}
 use Rattle.call_steps.specs.Prelude.{WhatIsInferred}
 use Rattle.call_steps.proofs.Reaching.{passed, passed-memory, to-write, with-answer, with-refusal}
-use Rattle.ghost_cli.proofs.infer.InferMaker.make.Goals as goal
+use Rattle.ghost_cli.proofs.conversions.InferMaker.make.Goals as goal
 
 pub returns-in_err-object-clause-stopped : goal.returns-in_err-object-clause-stopped
 returns-in_err-object-clause-stopped g c =
