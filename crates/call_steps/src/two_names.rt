@@ -9,13 +9,6 @@ use command_words::options::value;
 use gr_base::Memory;
 use std::alloc::Global;
 
-/// The name of the file that is read, and of the one that is written.
-#[derive(Clone, Copy)]
-pub struct TwoNames<'a> {
-    pub read: &'a str,
-    pub written: &'a str,
-}
-
 /// A verb that takes two names, of the file that it reads and of the one that it writes, and has no options.
 pub trait Conversion {
     /// The work on the files of these names.
@@ -27,6 +20,13 @@ pub trait Conversion {
     /// What the command line calls the file that is read.
     fn source_name() -> &'static str
         ensures { result.now ≡ source };
+}
+
+/// The name of the file that is read, and of the one that is written.
+#[derive(Clone, Copy)]
+pub struct TwoNames<'a> {
+    pub read: &'a str,
+    pub written: &'a str,
 }
 
 impl<'a, C: Conversion> Request<'a> for C {

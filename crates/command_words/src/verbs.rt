@@ -94,12 +94,27 @@ fn words_of<'a>(verb: Verb) -> VerbWords<'a>
 {
     match verb {
         Verb::Check => words("check", &["OBJ"], &[], &[]),
-        Verb::Trace => words("trace", &["OBJ", "INPUT"], &["cycles", "seed"], &["paths", "recursive"]),
-        Verb::Run => words("run", &["OBJ", "INPUT", "OUT"], &["cycles", "seed"], &["recursive"]),
+        Verb::Trace => words(
+            "trace",
+            &["OBJ", "INPUT"],
+            &["cycles", "seed"],
+            &["paths", "recursive"],
+        ),
+        Verb::Run => words(
+            "run",
+            &["OBJ", "INPUT", "OUT"],
+            &["cycles", "seed"],
+            &["recursive"],
+        ),
         Verb::Assemble => words("asm", &["TEXT", "OUT"], &[], &[]),
         Verb::Disassemble => words("dis", &["OBJ", "OUT"], &[], &[]),
         Verb::Evaluate => words("eval", &["SRC", "INPUT", "OUT"], &["turns"], &["procs"]),
-        Verb::Compile => words("compile", &["SRC", "OUT"], &["block-log", "window"], &["procs", "fast"]),
+        Verb::Compile => words(
+            "compile",
+            &["SRC", "OUT"],
+            &["block-log", "window"],
+            &["procs", "fast"],
+        ),
         Verb::Sample => words("sample", &["N", "OUT"], &["seed"], &["fast"]),
         Verb::Bus => VerbWords {
             place: Argument::Words,

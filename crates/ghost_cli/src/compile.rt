@@ -21,14 +21,14 @@ use std::alloc::Global;
 /// text's program.
 pub struct Compile;
 
-/// The names of the file that is read and of the one that is written, what is compiled for, and whether the file is read
-/// with procedures.
+/// The name of the file that is read, whether it is read with procedures, what is compiled for, and the name of the file
+/// that is written.
 #[derive(Clone, Copy)]
 pub struct CompileWords<'a> {
     source: &'a str,
-    output: &'a str,
-    target: Target,
     procs: bool,
+    target: Target,
+    output: &'a str,
 }
 
 impl<'a> Request<'a> for Compile {
@@ -64,7 +64,7 @@ fn words_in<'a>(matches: &ArgMatches<'a>) -> Option<CompileWords<'a>>
 {
     Some(CompileWords {
         source: value(matches, "SRC")?,
-        output: value(matches, "OUT")?,
+        procs: flag_given(value(matches, "procs")),
         target: Target {
             profile: windowed(
                 block_log_given(value(matches, "block-log"))?,
@@ -72,6 +72,6 @@ fn words_in<'a>(matches: &ArgMatches<'a>) -> Option<CompileWords<'a>>
             ),
             fast: flag_given(value(matches, "fast")),
         },
-        procs: flag_given(value(matches, "procs")),
+        output: value(matches, "OUT")?,
     })
 }

@@ -18,14 +18,15 @@ use std::alloc::Global;
 /// The verb `eval SRC INPUT OUT [--turns n] [--procs]`: evaluates a program on inputs, and writes its final values.
 pub struct Evaluate;
 
-/// The names of the files of an evaluation, its number of turns, and whether the program is read with procedures.
+/// The name of the file of a program, whether it is read with procedures, the names of the files of its inputs and
+/// outputs, and the most turns of its evaluation.
 #[derive(Clone, Copy)]
 pub struct EvaluateWords<'a> {
     source: &'a str,
+    procs: bool,
     input: &'a str,
     output: &'a str,
     turns: u32,
-    procs: bool,
 }
 
 impl<'a> Request<'a> for Evaluate {
@@ -68,9 +69,9 @@ fn words_in<'a>(matches: &ArgMatches<'a>) -> Option<EvaluateWords<'a>>
 {
     Some(EvaluateWords {
         source: value(matches, "SRC")?,
+        procs: flag_given(value(matches, "procs")),
         input: value(matches, "INPUT")?,
         output: value(matches, "OUT")?,
         turns: number_given(value(matches, "turns"))?,
-        procs: flag_given(value(matches, "procs")),
     })
 }

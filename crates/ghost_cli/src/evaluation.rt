@@ -11,13 +11,6 @@ use run_data::output_text;
 use source_meaning::{Outcome, eval};
 use std::alloc::Global;
 
-/// How an evaluation ended: it was done and left the values of this text, or the loops took more turns than there were.
-#[derive(Drop)]
-pub enum Left {
-    Done(Vec<u8>),
-    Spent,
-}
-
 /// Evaluates a program on inputs that fit it.
 pub(crate) fn evaluate_to_end(
     alloc: Global,
@@ -34,4 +27,11 @@ pub(crate) fn evaluate_to_end(
         Outcome::Done(values) => Ok(Left::Done(output_text(alloc, wants, &values)?)),
         Outcome::Spent => Ok(Left::Spent),
     }
+}
+
+/// How an evaluation ended: it was done and left the values of this text, or the loops took more turns than there were.
+#[derive(Drop)]
+pub enum Left {
+    Done(Vec<u8>),
+    Spent,
 }

@@ -1,10 +1,10 @@
 ghost use Rattle.std.specs.Prelude.{◌≡◌, ◌≤◌, IfOk, IfSome};
 ghost use Rattle.std.specs.Option.{option_map};
-ghost use Rattle.clap.specs.Words.{found_of, rows_of};
 ghost use Rattle.lt_isa.specs.Prelude.{outputs, IsInRange, FitsObject, wants_of};
 ghost use Rattle.run_data.specs.Prelude.{output_of};
 ghost use Rattle.machine_verbs.specs.Ran.{RanTo};
 ghost use Rattle.command_words.specs.Prelude.{run_asks};
+ghost use Rattle.clap.specs.Words.{found_of, rows_of};
 ghost use Rattle.machine_verbs.specs.Run.{run_work};
 
 use call_replies::replies::{Done, Reply, Verdict};

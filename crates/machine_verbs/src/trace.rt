@@ -1,10 +1,10 @@
 ghost use Rattle.std.specs.Prelude.{◌≡◌, ◌≢◌, ◌≤◌, [], IfOk, IfSome, IsTrue, OnErr, false, length, true};
 ghost use Rattle.std.specs.Option.{option_map};
-ghost use Rattle.clap.specs.Words.{found_of, rows_of};
 ghost use Rattle.banks.specs.Prelude.{accesses_from};
 ghost use Rattle.call_replies.specs.Prelude.{comes_to};
 ghost use Rattle.command_words.specs.Prelude.{trace_asks};
 ghost use Rattle.machine_verbs.specs.Trace.{trace_work, traces_on};
+ghost use Rattle.clap.specs.Words.{found_of, rows_of};
 ghost use Rattle.call_steps.specs.Prelude.{ExplainsRest, AreBehind, MayRun, PutsLast, stream_from};
 ghost use Rattle.machine_verbs.specs.Watched.{HoldsLines, PutsShown, PutsTrace, kept};
 ghost use Rattle.machine_verbs.specs.TracedInTrees.{TracedInTrees};
