@@ -237,9 +237,9 @@ module _ {W : Type 0} (works : Works W) where
           object = two.0;
           input = two.1;
           parts = found.0;
+          says = says;
           cycles = given.0;
           seed = given.1;
-          says = says;
           cycles_given = given.2;
           seed_is = given.3;
           is = given.4;
@@ -287,16 +287,17 @@ module _ {W : Type 0} (works : Works W) where
     (λ asked.
         let found = asked-row run_row (verb-row Run refl) (run_asks works.run) words work texts asked in
         let names = three-names (names_in found.0) (codes "OBJ") (codes "INPUT") (codes "OUT") found.1.names in
-        let says = all-says run_row words (names.0 ∷ names.1 ∷ names.2 ∷ []) found.0 found.1 names.3 in
-        let given = run-given words names.0 names.1 names.2 found.0 work says asked in
+        let parts = found.0 in
+        let says = all-says run_row words (names.0 ∷ names.1 ∷ names.2 ∷ []) parts found.1 names.3 in
+        let given = run-given words names.0 names.1 names.2 parts work says asked in
         record {
           object = names.0;
           input = names.1;
           output = names.2;
-          parts = found.0;
+          parts = parts;
+          says = says;
           cycles = given.0;
           seed = given.1;
-          says = says;
           cycles_given = given.2;
           seed_is = given.3;
           is = given.4;
@@ -345,15 +346,16 @@ module _ {W : Type 0} (works : Works W) where
         let found =
         asked-row evaluate_row (verb-row Evaluate refl) (evaluate_asks works.evaluate) words work texts asked in
         let names = three-names (names_in found.0) (codes "SRC") (codes "INPUT") (codes "OUT") found.1.names in
-        let says = all-says evaluate_row words (names.0 ∷ names.1 ∷ names.2 ∷ []) found.0 found.1 names.3 in
-        let given = evaluate-given words names.0 names.1 names.2 found.0 work says asked in
+        let parts = found.0 in
+        let says = all-says evaluate_row words (names.0 ∷ names.1 ∷ names.2 ∷ []) parts found.1 names.3 in
+        let given = evaluate-given words names.0 names.1 names.2 parts work says asked in
         record {
           source = names.0;
           input = names.1;
           output = names.2;
-          parts = found.0;
-          turns = given.0;
+          parts = parts;
           says = says;
+          turns = given.0;
           turns_given = given.1;
           is = given.2;
         }),
@@ -414,9 +416,9 @@ module _ {W : Type 0} (works : Works W) where
           source = two.0;
           output = two.1;
           parts = found.0;
+          says = says;
           block_log = given.0;
           window = given.1;
-          says = says;
           block_log_is = given.2;
           window_is = given.3;
           is = given.4;
@@ -464,9 +466,9 @@ module _ {W : Type 0} (works : Works W) where
           number = two.0;
           output = two.1;
           parts = found.0;
+          says = says;
           items = given.0;
           seed = given.1;
-          says = says;
           items_are = given.2;
           seed_is = given.3;
           is = given.4;
