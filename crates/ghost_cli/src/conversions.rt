@@ -105,6 +105,15 @@ fn with_notes<'a>(alloc: Global, object: &Object) -> Result<Object, Reply<'a>>
     }
 }
 
+/// How many notes an object has, which is in range.
+fn note_count(object: &Object) -> u32
+    ensures count { result ≡ length object.now.notes }
+    ensures in_range { IsInRange object.now }
+{
+    let notes = object.notes();
+    notes.len() as u32
+}
+
 /// The reply for an object that gets no notes.
 fn without_notes<'a>(why: InferError) -> Reply<'a>
     ensures { SaysNotes why (said result) }
@@ -117,13 +126,4 @@ fn without_notes<'a>(why: InferError) -> Reply<'a>
         InferError::TooMany(count) => Reply::Comes(Verdict::NoNotes(InferError::TooMany(count))),
         InferError::Memory => Reply::NoMemory,
     }
-}
-
-/// How many notes an object has, which is in range.
-fn note_count(object: &Object) -> u32
-    ensures count { result ≡ length object.now.notes }
-    ensures in_range { IsInRange object.now }
-{
-    let notes = object.notes();
-    notes.len() as u32
 }
