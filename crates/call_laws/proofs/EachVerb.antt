@@ -1,8 +1,11 @@
 -- What is true of each verb's name, and of any other text, is true of all texts.
-use Rattle.std.proofs.Common.{◌≡◌, ◌⊎◌, inl, inr, Bool, true, false, List, [], ◌∷◌, codes, refl, sym, ◌∙◌, subst, ⊎_elim}
+use Rattle.std.proofs.Common.{◌≡◌, ◌⊎◌, inl, inr, Bool, true, false, List, [], ◌∷◌, codes, Option, Some, None, refl, sym, ◌∙◌, subst, ⊎_elim}
 use Rattle.std.specs.Str.{bytes_eq}
 use Rattle.std.proofs.lemmas.Slice.Eq.{bytes_eq-Decides}
 use Rattle.command_words.specs.Prelude.{IsAmong, Text, verb_names}
+use Rattle.command_words.proofs.VerbWords.{words-ask}
+use Rattle.call_steps.specs.Prelude.{Work}
+use Rattle.call_laws.specs.Prelude.{work_of, works}
 
 either : (x y : Text) → (x ≡ y) ⊎ (x ≡ y → ⊥)
 either x y = by (bytes_eq x y) refl
@@ -41,3 +44,9 @@ module _ (P : Text → Type 0) (check : P (codes "check")) (trace : P (codes "tr
 
   pub each-verb : (verb : Text) → P verb
   each-verb verb = ⊎_elim (of-known verb) (other verb) (among verb_names verb)
+
+-- words whose first isn't a verb ask for no work
+pub asks-nothing : (verb : Text) (more : List Text) (work : Work) → (IsAmong verb_names verb → ⊥)
+    → work_of (verb ∷ more) ≡ Some work → ⊥
+asks-nothing verb more work unknown asked =
+    let f : ◌≡◌ {A = Option Work} None (Some work) = sym ((words-ask works).no_verb verb more unknown) ∙ asked in cc

@@ -19,13 +19,13 @@ use Rattle.note_infer.specs.declared.faults.InferError.{InferError}
 use Rattle.call_replies.specs.declared.source_faults.SourceFault.{SourceFault}
 use Rattle.call_replies.specs.declared.replies.Verdict.{Verdict}
 use Rattle.call_laws.specs.Prelude.{assemble_work, check_work, disassemble_work, evaluate_work, on_left, infer_work, on_inferred, on_sampled, sample_work, work_of, works, NameOutput}
-use Rattle.command_words.specs.Prelude.{Pair, AreTexts, IsAmong, Part, Says, Text, WritesFile, flags_of, name_of, options_of, verb_names}
+use Rattle.command_words.specs.Prelude.{Pair, AreTexts, Part, Says, Text, WritesFile, flags_of, name_of, options_of}
 use Rattle.machine_verbs.specs.Prelude.{Read, bus_work, none_read, on_plan, one_read, shares_bus, with_cores, with_halts, on_halt, run_work, shows_on, trace_work}
 use Rattle.call_steps.specs.Prelude.{compile_work, on_compiled, Made, Answer, Question, on_judged, or_ends, with_accepted, with_assembly, with_object, with_source, with_variables, Asks, Ends, MayWrite, Reads, Work, Writes, WritesIt, WritesLater, WritesThen}
 use Rattle.command_words.specs.declared.verbs.Verb.{Verb}
 use Rattle.command_words.specs.declared.verbs.Verb.TheVariants.{Assemble, Compile, Disassemble, Evaluate, Infer, Run, Sample}
 use Rattle.command_words.proofs.VerbWords.{words-ask}
-use Rattle.call_laws.proofs.EachVerb.{each-verb}
+use Rattle.call_laws.proofs.EachVerb.{asks-nothing, each-verb}
 
 -- ---- the files after a write
 
@@ -254,16 +254,11 @@ module _ (more : List Text) (texts : AreTexts more) (work : Work) (name : Text) 
       names-output Infer tt more (a.first ∷ []) a.second name a.parts a.says
       (by-only (Out a.second) _ a.is (infer-only (Out a.second) a.second refl a.first))
 
-  of-none : (verb : Text) → (IsAmong verb_names verb → ⊥) → OfVerb verb
-  of-none verb unknown asked = absurd (none-asked (sym ((words-ask works).no_verb verb more unknown) ∙ asked))
-    where
-      none-asked : None ≡ Some work → ⊥
-      none-asked e = let f : ◌≡◌ {A = Option Work} None (Some work) = e in cc
-
   of-verb : (verb : Text) → OfVerb verb
   of-verb =
       each-verb (λ (verb : Text). OfVerb verb) of-check of-trace of-run of-assemble of-disassemble of-evaluate
-      of-compile of-sample of-bus of-infer of-none
+      of-compile of-sample of-bus of-infer
+      (λ verb unknown asked. absurd (asks-nothing verb more work unknown asked))
 
 -- the words name the output that their work may write
 pub words-name : (words : List Text) → AreTexts words → (work : Work) (name : Text) → work_of words ≡ Some work

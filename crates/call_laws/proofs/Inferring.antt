@@ -107,24 +107,5 @@ inferred-of {asked = asked} {status = status} explained object output is done fi
 pub no-notes : (o : Parts) (why : InferError) (said : Said) → IsWhyNot o why → NoNotesWouldDo o why
     → SaysNotes why said → (output : List ℕ) → EndsWorkWith (WhatIsInferred o) (on_inferred output) said
 no-notes o notes.Memory said cause suffices says output = inl says
-no-notes o (notes.Dead pc) said cause suffices says output = inr (
-  Err (notes.Dead pc),
-  NoNotes (notes.Dead pc),
-  record { told = λ e. cc; cause = cause; suffices = suffices },
-  refl,
-  says,
-)
-no-notes o (notes.Refused pc reason) said cause suffices says output = inr (
-  Err (notes.Refused pc reason),
-  NoNotes (notes.Refused pc reason),
-  record { told = λ e. cc; cause = cause; suffices = suffices },
-  refl,
-  says,
-)
-no-notes o (notes.TooMany count) said cause suffices says output = inr (
-  Err (notes.TooMany count),
-  NoNotes (notes.TooMany count),
-  record { told = λ e. cc; cause = cause; suffices = suffices },
-  refl,
-  says,
-)
+no-notes o why said cause suffices says output =
+    inr (Err why, NoNotes why, record { told = λ e. cc; cause = cause; suffices = suffices }, refl, says)

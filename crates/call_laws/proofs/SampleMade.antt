@@ -84,24 +84,9 @@ none-some found e none some = absurd (let f : ◌≡◌ {A = Option TypeError} N
 
 no-program_fault : (p : Source) (e : TypeError) (shown : SourceFault)
     → first_fault p ≡ None → ExplainsProgram e p → program_fault e ≡ Some shown → ⊥
-no-program_fault p (program.TwiceDeclared n) shown none explains is =
-    none-some (first_fault p) (program.TwiceDeclared n) none (caused p (program.TwiceDeclared n) explains)
-no-program_fault p (program.Undeclared n) shown none explains is =
-    none-some (first_fault p) (program.Undeclared n) none (caused p (program.Undeclared n) explains)
-no-program_fault p (program.WrongShape n) shown none explains is =
-    none-some (first_fault p) (program.WrongShape n) none (caused p (program.WrongShape n) explains)
-no-program_fault p (program.FlowToPublic n) shown none explains is =
-    none-some (first_fault p) (program.FlowToPublic n) none (caused p (program.FlowToPublic n) explains)
-no-program_fault p (program.SecretIndexOfPublic n) shown none explains is =
-    none-some (first_fault p) (program.SecretIndexOfPublic n) none (caused p (program.SecretIndexOfPublic n) explains)
-no-program_fault p (program.SecretGuardOfLoop n) shown none explains is =
-    none-some (first_fault p) (program.SecretGuardOfLoop n) none (caused p (program.SecretGuardOfLoop n) explains)
-no-program_fault p (program.LoopInSecret n) shown none explains is =
-    none-some (first_fault p) (program.LoopInSecret n) none (caused p (program.LoopInSecret n) explains)
-no-program_fault p (program.Limit which n) shown none explains is =
-    none-some (first_fault p) (program.Limit which n) none (caused p (program.Limit which n) explains)
 no-program_fault p program.Memory shown none explains is =
     absurd (let f : ◌≡◌ {A = Option SourceFault} None (Some shown) = is in cc)
+no-program_fault p e shown none explains is = none-some (first_fault p) e none (caused p e explains)
 
 -- the text has no first fault
 no-first : (n : ℕ) → Within 1 65536 n → (shown : SourceFault) → IsFirstSourceFault false (sample_text n) shown → ⊥
@@ -141,21 +126,15 @@ text-starved n few text is said refuses =
 -- there is room for its variables
 pub no-room_fault : (fast : Bool) (n : ℕ) → n ≤ 65536 → (e : CompileError) (shown : SourceFault)
     → LacksRoom fast e (sample_program n) 9 → room_fault e ≡ Some shown → ⊥
-no-room_fault false n few (room.TooManyScalars Public) shown many is =
+no-room_fault fast n few (room.TooManyScalars Public) shown many is =
     let fits = (sample_fits n few).scalars.public in omega (arith, many, fits)
-no-room_fault false n few (room.TooManyScalars Secret) shown many is =
+no-room_fault fast n few (room.TooManyScalars Secret) shown many is =
     let fits = (sample_fits n few).scalars.secret in omega (arith, many.1, fits)
 no-room_fault false n few (room.BankFull bank) shown full is =
     let needs = sample_needs n bank few in omega (arith, full.1.full, needs)
-no-room_fault false n few room.Memory shown none is =
-    absurd (let f : ◌≡◌ {A = Option SourceFault} None (Some shown) = is in cc)
-no-room_fault true n few (room.TooManyScalars Public) shown many is =
-    let fits = (sample_fits n few).scalars.public in omega (arith, many, fits)
-no-room_fault true n few (room.TooManyScalars Secret) shown many is =
-    let fits = (sample_fits n few).scalars.secret in omega (arith, many.1, fits)
 no-room_fault true n few (room.BankFull bank) shown full is =
     let needs = resident_needs n bank few in omega (arith, full.1.full, needs)
-no-room_fault true n few room.Memory shown none is =
+no-room_fault fast n few room.Memory shown none is =
     absurd (let f : ◌≡◌ {A = Option SourceFault} None (Some shown) = is in cc)
 
 object-starved : (fast : Bool) (n : ℕ) → n ≤ 65536 → (verdict : Verdict) (answer : Result (List ℕ) SourceFault)

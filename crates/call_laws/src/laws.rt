@@ -1,9 +1,9 @@
 ghost use Rattle.call_laws.specs.BusAgrees.{BusAgrees};
 ghost use Rattle.call_laws.specs.Calls.{CallsAsMeant};
 ghost use Rattle.call_laws.specs.CompiledRuns.{CompiledRuns};
+ghost use Rattle.call_steps.specs.Prelude.{InferredOnce, TracesAgree, TextsAgree, IsTraceText};
 ghost use Rattle.call_laws.specs.CompiledTexts.{CompiledTexts};
 ghost use Rattle.call_laws.specs.HeadlineFollows.{HeadlineFollows};
-ghost use Rattle.call_steps.specs.Prelude.{InferredOnce, TracesAgree, TextsAgree, IsTraceText};
 ghost use Rattle.call_laws.specs.OneAnswer.{OneAnswer, OneSource, SomeAnswer, TraceAgrees};
 ghost use Rattle.call_laws.specs.Promises.{PromisesFollow};
 ghost use Rattle.command_words.specs.Prelude.{WordsAsk};

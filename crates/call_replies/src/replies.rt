@@ -39,12 +39,13 @@ impl JsonText {
         let text = without_hidden(alloc, quoted.as_str())?;
         Ok(JsonText { text })
     }
+}
 
-    /// The text.
-    pub fn text(&self) -> &str
-        ensures { result.now ≡ self.now }
-    {
-        self.text.as_str()
+impl fmt::Display for JsonText {
+    ghost output = { λ json. Some json };
+
+    fn fmt<W: fmt::Write>(&self, f: &mut fmt::Formatter<W>) -> fmt::Result {
+        f.write_str(self.text.as_str())
     }
 }
 
@@ -218,7 +219,7 @@ impl fmt::Display for Verdict {
             Verdict::Traced(true) => f.write_str("end halted\n"),
             Verdict::Traced(false) => f.write_str("end spent\n"),
             Verdict::Malformed(fault) => {
-                let detail = ObjectDetail(fault);
+                let detail = Detail(fault);
                 write!(f, "fault 6 object {detail}\n")
             }
             Verdict::Refused(pc, reason) => {
@@ -229,7 +230,7 @@ impl fmt::Display for Verdict {
             Verdict::BadInput(fault) => write!(f, "fault 9 input {fault}\n"),
             Verdict::Spent(most) => write!(f, "fault 10 spent {most}\n"),
             Verdict::BadAssembly(fault) => {
-                let detail = TextDetail(fault);
+                let detail = Detail(fault);
                 write!(f, "fault 12 assembly {detail}\n")
             }
             Verdict::OffBus(core, cause) => {
@@ -238,7 +239,7 @@ impl fmt::Display for Verdict {
             }
             Verdict::Shared(_) => Ok(()),
             Verdict::NoNotes(why) => {
-                let detail = NotesDetail(why);
+                let detail = Detail(why);
                 write!(f, "fault 7 {detail}\n")
             }
         }
@@ -287,31 +288,20 @@ impl fmt::Display for InputFault {
         match self {
             InputFault::Json => f.write_str("json"),
             InputFault::Object => f.write_str("object"),
-            InputFault::Unknown(name) => {
-                let text = name.text();
-                write!(f, "unknown {text}")
-            }
-            InputFault::Shape(name) => {
-                let text = name.text();
-                write!(f, "shape {text}")
-            }
-            InputFault::Length(name) => {
-                let text = name.text();
-                write!(f, "length {text}")
-            }
-            InputFault::Word(name) => {
-                let text = name.text();
-                write!(f, "word {text}")
-            }
+            InputFault::Unknown(name) => write!(f, "unknown {name}"),
+            InputFault::Shape(name) => write!(f, "shape {name}"),
+            InputFault::Length(name) => write!(f, "length {name}"),
+            InputFault::Word(name) => write!(f, "word {name}"),
         }
     }
 }
 
-/// Why a file doesn't encode an object, and where.
+/// A fault of another crate, as the last line of a call names it.
 #[derive(Clone, Copy)]
-struct ObjectDetail<'a>(&'a DecodeError);
+struct Detail<'a, E>(&'a E);
 
-impl fmt::Display for ObjectDetail<'_> {
+/// Why a file doesn't encode an object, and where.
+impl fmt::Display for Detail<'_, DecodeError> {
     ghost output = { λ detail. Some (object_fault detail.0.now) };
 
     fn fmt<W: fmt::Write>(&self, f: &mut fmt::Formatter<W>) -> fmt::Result {
@@ -327,10 +317,7 @@ impl fmt::Display for ObjectDetail<'_> {
 }
 
 /// Why a text isn't an object in assembly, and in which line.
-#[derive(Clone, Copy)]
-struct TextDetail<'a>(&'a AsmError);
-
-impl fmt::Display for TextDetail<'_> {
+impl fmt::Display for Detail<'_, AsmError> {
     ghost output = { λ detail. Some (text_fault detail.0.now) };
 
     fn fmt<W: fmt::Write>(&self, f: &mut fmt::Formatter<W>) -> fmt::Result {
@@ -346,10 +333,7 @@ impl fmt::Display for TextDetail<'_> {
 }
 
 /// Why an object gets no notes.
-#[derive(Clone, Copy)]
-struct NotesDetail<'a>(&'a InferError);
-
-impl fmt::Display for NotesDetail<'_> {
+impl fmt::Display for Detail<'_, InferError> {
     ghost output = { λ detail. Some (notes_fault detail.0.now) };
 
     fn fmt<W: fmt::Write>(&self, f: &mut fmt::Formatter<W>) -> fmt::Result {

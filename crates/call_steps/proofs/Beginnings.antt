@@ -85,6 +85,12 @@ oblivious-most o fits b two exists =
 module _ (o : Parts) (inputs : List (List ℤ)) (seed core b : ℕ) (blocks : Blocks)
     (starts : blocks ≡ starting_bank o inputs b) (source : ChaCha)
     (seeded : source ≡ of_seed (seed_bytes seed core b)) where
+  count-is : length blocks.contents ≡ blocks_of o b
+  count-is = ap (λ bank. length bank.contents) starts ∙ length-start_bank o inputs b
+
+  words-are : stream_from source ≡ seeded_words seed core b
+  words-are = ap stream_from seeded
+
   -- a bank that was made begins so
   pub begins-made : {E : Type 0} (made : Result (Oram ChaCha) E)
       → IfOk made (λ oram. oram.contents ≡ blocks.contents) → IfOk made (λ oram. oram.width ≡ blocks.width)
@@ -96,22 +102,18 @@ module _ (o : Parts) (inputs : List (List ℤ)) (seed core b : ℕ) (blocks : Bl
       → paths_ahead oram.places (stream_from oram.words) list ≡ map one_leaf (leaves_shown (length blocks.contents)
       oram.places.height (first_words (length blocks.contents + length list) (stream_from source)) list))
       → IfOk made (BankBegins o inputs seed core b)
-  begins-made (Ok oram) contents width height first drawn shown =
-      let count : length blocks.contents ≡ blocks_of o b =
-      ap (λ bank. length bank.contents) starts ∙ length-start_bank o inputs b in
-      let same : stream_from source ≡ seeded_words seed core b = ap stream_from seeded in
-      record {
-        contents = contents ∙ ap (λ bank. bank.contents) starts;
-        width = width ∙ ap (λ bank. bank.width) starts;
-        height = subst (λ n. IsHeightFor n oram.places.height) count height;
-        first =
-            first ∙ ap₂ (λ n s. first_places oram.places.height (map (leaf_of oram.places.height) (first_words n s)))
-            count same;
-        words = drawn ∙ ap₂ (λ n s. words_left n s) count same;
-        shown = λ list exist. shown list (subst (λ n. All (λ block. block < n) list) (sym count) exist)
-            ∙ ap₂ (λ n s. map one_leaf (leaves_shown n oram.places.height (first_words (n + length list) s) list))
-            count same;
-      }
+  begins-made (Ok oram) contents width height first drawn shown = record {
+    contents = contents ∙ ap (λ bank. bank.contents) starts;
+    width = width ∙ ap (λ bank. bank.width) starts;
+    height = subst (λ n. IsHeightFor n oram.places.height) count-is height;
+    first =
+        first ∙ ap₂ (λ n s. first_places oram.places.height (map (leaf_of oram.places.height) (first_words n s)))
+        count-is words-are;
+    words = drawn ∙ ap₂ (λ n s. words_left n s) count-is words-are;
+    shown = λ list exist. shown list (subst (λ n. All (λ block. block < n) list) (sym count-is) exist)
+        ∙ ap₂ (λ n s. map one_leaf (leaves_shown n oram.places.height (first_words (n + length list) s) list))
+        count-is words-are;
+  }
   begins-made (Err e) contents width height first drawn shown = tt
 
   -- and so does a recursive one
@@ -123,17 +125,13 @@ module _ (o : Parts) (inputs : List (List ℤ)) (seed core b : ℕ) (blocks : Bl
       ≡ rec_leaves (first_words (words_made (map size_of (all_trees oram)) + length list * length (all_trees oram))
       (stream_from source)) (map size_of (all_trees oram)) list)
       → IfOk made (RecursiveBegins o inputs seed core b)
-  recursive-made (Ok oram) contents width sizes shown =
-      let count : length blocks.contents ≡ blocks_of o b =
-      ap (λ bank. length bank.contents) starts ∙ length-start_bank o inputs b in
-      let same : stream_from source ≡ seeded_words seed core b = ap stream_from seeded in
-      record {
-        contents = contents ∙ ap (λ bank. bank.contents) starts;
-        width = width ∙ ap (λ bank. bank.width) starts;
-        sizes = subst (λ n. AreSizes n (map size_of (all_trees oram))) count sizes;
-        shown = λ list exist. shown list (subst (λ n. All (λ block. block < n) list) (sym count) exist)
-            ∙ ap (λ s. rec_leaves
-            (first_words (words_made (map size_of (all_trees oram)) + length list * length (all_trees oram)) s)
-            (map size_of (all_trees oram)) list) same;
-      }
+  recursive-made (Ok oram) contents width sizes shown = record {
+    contents = contents ∙ ap (λ bank. bank.contents) starts;
+    width = width ∙ ap (λ bank. bank.width) starts;
+    sizes = subst (λ n. AreSizes n (map size_of (all_trees oram))) count-is sizes;
+    shown = λ list exist. shown list (subst (λ n. All (λ block. block < n) list) (sym count-is) exist)
+        ∙ ap (λ s. rec_leaves
+        (first_words (words_made (map size_of (all_trees oram)) + length list * length (all_trees oram)) s)
+        (map size_of (all_trees oram)) list) words-are;
+  }
   recursive-made (Err e) contents width sizes shown = tt

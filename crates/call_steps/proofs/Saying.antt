@@ -29,16 +29,7 @@ pub no-object : (bytes : List ℕ) (fault : DecodeError) (said : Said)
     → (fault ≢ object.Memory → IsFirstObjectFault bytes fault) → SaysObject fault said
     → (next : Parts → Work) → EndsWorkWith (WhichObject bytes) (or_ends Malformed next) said
 no-object bytes object.Memory said fails says next = inl says
-no-object bytes (object.Truncated at) said fails says next =
-    inr (Err (object.Truncated at), Malformed (object.Truncated at), fails (λ e. cc), refl, says)
-no-object bytes object.BadMagic said fails says next =
-    inr (Err object.BadMagic, Malformed object.BadMagic, fails (λ e. cc), refl, says)
-no-object bytes (object.BadVersion version) said fails says next =
-    inr (Err (object.BadVersion version), Malformed (object.BadVersion version), fails (λ e. cc), refl, says)
-no-object bytes (object.BadField at) said fails says next =
-    inr (Err (object.BadField at), Malformed (object.BadField at), fails (λ e. cc), refl, says)
-no-object bytes (object.TrailingBytes at) said fails says next =
-    inr (Err (object.TrailingBytes at), Malformed (object.TrailingBytes at), fails (λ e. cc), refl, says)
+no-object bytes fault said fails says next = inr (Err fault, Malformed fault, fails (λ e. cc), refl, says)
 
 -- a text that gives no program, by a fault of it that is shown
 pub no-source : (procs : Bool) (text : List ℕ) (shown : Option SourceFault) (said : Said)
@@ -67,16 +58,7 @@ pub no-assembly : (bytes : List ℕ) (fault : AsmError) (said : Said)
     → (fault ≢ text.Memory → IsFirstTextFault bytes fault) → SaysText fault said
     → (next : Parts → Work) → EndsWorkWith (WhichAssembly bytes) (or_ends BadAssembly next) said
 no-assembly bytes text.Memory said fails says next = inl says
-no-assembly bytes (text.BadLine n) said fails says next =
-    inr (Err (text.BadLine n), BadAssembly (text.BadLine n), fails (λ e. cc), refl, says)
-no-assembly bytes (text.BadNumber n) said fails says next =
-    inr (Err (text.BadNumber n), BadAssembly (text.BadNumber n), fails (λ e. cc), refl, says)
-no-assembly bytes (text.UnknownName n) said fails says next =
-    inr (Err (text.UnknownName n), BadAssembly (text.UnknownName n), fails (λ e. cc), refl, says)
-no-assembly bytes (text.TwiceNamed n) said fails says next =
-    inr (Err (text.TwiceNamed n), BadAssembly (text.TwiceNamed n), fails (λ e. cc), refl, says)
-no-assembly bytes (text.OverLimit n) said fails says next =
-    inr (Err (text.OverLimit n), BadAssembly (text.OverLimit n), fails (λ e. cc), refl, says)
+no-assembly bytes fault said fails says next = inr (Err fault, BadAssembly fault, fails (λ e. cc), refl, says)
 
 -- a fault that is shown isn't want of memory
 shown-not : (fault : InputError) (shown : InputFault) → Shows fault shown → fault ≢ input.Memory

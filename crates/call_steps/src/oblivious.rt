@@ -1,5 +1,6 @@
 ghost use Rattle.std.specs.Prelude.{◌≡◌, ◌-◌, ◌<◌, ◌≤◌, ℕ, ℤ, List, IfOk, length};
-ghost use Rattle.lt_isa.specs.Prelude.{Parts, block_words, IsInRange, FitsObject, start_bank};
+ghost use Rattle.lt_isa.specs.Prelude.{Parts, block_words, most_blocks, IsInRange, FitsObject, start_bank};
+ghost use Rattle.processor.specs.Prelude.{starting_bank};
 ghost use Rattle.rand_chacha.specs.ChaCha.{of_seed};
 ghost use Rattle.call_steps.specs.Beginning.{BankBegins, BeginFrom, HasBegun, RecursiveBegins};
 ghost use Rattle.call_steps.specs.Seeds.{seed_bytes};
@@ -8,7 +9,7 @@ use gr_base::Memory;
 use gr_word::Inputs;
 use lt_checker::Accepted;
 use path_oram::PathOram;
-use processor::{Bank, Machine, bank_at_start, load_over};
+use processor::{Bank, Machine, PlainBank, bank_at_start, load_over};
 use rand_chacha::ChaCha20Rng;
 use rand_core::SeedableRng;
 use recursive_oram::RecursiveOram;
@@ -26,68 +27,46 @@ pub trait Seeded: Bank {
     /// object, the inputs, the seed, the core's number, and the bank's number.
     ghost begins: { Parts → List (List ℤ) → ℕ → ℕ → ℕ → Self → Type 0 };
 
-    /// The oblivious bank of a number at the start of a run.
-    fn at_start(
-        alloc: Global,
-        accepted: &Accepted,
-        inputs: &Inputs,
-        bank: u8,
-        seed: u64,
-        core: u8,
-    ) -> Result<Self, Memory>
-        requires in_range { IsInRange accepted.now }
-        requires fits { FitsObject accepted.now inputs.now }
-        requires oblivious { 2 ≤ bank }
-        requires exists { bank < length accepted.now.banks }
-        ensures { IfOk result (λ oram. begins accepted.now inputs.now seed core bank oram) };
+    /// An oblivious bank over these blocks, with its random words from this source. If they are those of an object's
+    /// bank and of the seed, it is that bank at the start of a run.
+    fn over_blocks(alloc: Global, words: ChaCha20Rng, blocks: PlainBank) -> Result<Self, Memory>
+        requires { length blocks.contents ≤ most_blocks 2 }
+        ensures { (o : Parts) (inputs : List (List ℤ)) (seed core b : ℕ)
+            → words ≡ of_seed (seed_bytes seed core b) → blocks ≡ starting_bank o inputs b
+            → IfOk result (λ oram. begins o inputs seed core b oram) };
 
-    /// Such a bank holds what the object's has at the start.
+    /// Such a bank holds what the object's has at the start, and has the object's width.
     ghost begins_with: { (o : Parts) (inputs : List (List ℤ)) (seed core b : ℕ) (oram : Self)
-        → begins o inputs seed core b oram → Self.contents oram ≡ start_bank o inputs b };
-
-    /// And it has the object's width.
-    ghost begins_wide: { (o : Parts) (inputs : List (List ℤ)) (seed core b : ℕ) (oram : Self)
-        → begins o inputs seed core b oram → Self.width oram ≡ block_words o };
+        → begins o inputs seed core b oram
+        → (Self.contents oram ≡ start_bank o inputs b) × (Self.width oram ≡ block_words o) };
 }
 
 impl Seeded for SeededOram {
     ghost begins = { λ o inputs seed core b oram. BankBegins o inputs seed core b oram };
 
-    fn at_start(
+    fn over_blocks(
         alloc: Global,
-        accepted: &Accepted,
-        inputs: &Inputs,
-        bank: u8,
-        seed: u64,
-        core: u8,
+        words: ChaCha20Rng,
+        blocks: PlainBank,
     ) -> Result<SeededOram, Memory> {
-        let blocks = bank_at_start(alloc, accepted, inputs, bank)?;
-        PathOram::over(alloc, source_for(seed, core, bank), blocks)
+        PathOram::over(alloc, words, blocks)
     }
 
-    ghost begins_with = { λ o inputs seed core b oram begun. begun.contents };
-
-    ghost begins_wide = { λ o inputs seed core b oram begun. begun.width };
+    ghost begins_with = { λ o inputs seed core b oram begun. (begun.contents, begun.width) };
 }
 
 impl Seeded for SeededRecursive {
     ghost begins = { λ o inputs seed core b oram. RecursiveBegins o inputs seed core b oram };
 
-    fn at_start(
+    fn over_blocks(
         alloc: Global,
-        accepted: &Accepted,
-        inputs: &Inputs,
-        bank: u8,
-        seed: u64,
-        core: u8,
+        words: ChaCha20Rng,
+        blocks: PlainBank,
     ) -> Result<SeededRecursive, Memory> {
-        let blocks = bank_at_start(alloc, accepted, inputs, bank)?;
-        RecursiveOram::over(alloc, source_for(seed, core, bank), blocks)
+        RecursiveOram::over(alloc, words, blocks)
     }
 
-    ghost begins_with = { λ o inputs seed core b oram begun. begun.contents };
-
-    ghost begins_wide = { λ o inputs seed core b oram begun. begun.width };
+    ghost begins_with = { λ o inputs seed core b oram begun. (begun.contents, begun.width) };
 }
 
 /// A machine for an accepted object at the start of a run on some inputs, its oblivious banks over the random words
@@ -128,7 +107,8 @@ fn orams_at_start<B: Seeded + Drop>(
 {
     let mut orams = Vec::new(alloc);
     for bank in 2..banks {
-        orams.push(B::at_start(alloc, accepted, inputs, bank, seed, core)?)?;
+        let blocks = bank_at_start(alloc, accepted, inputs, bank)?;
+        orams.push(B::over_blocks(alloc, source_for(seed, core, bank), blocks)?)?;
     }
     Ok(orams)
 }

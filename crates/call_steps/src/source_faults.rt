@@ -1,5 +1,5 @@
 ghost use Rattle.std.specs.Prelude.{◌≡◌};
-ghost use Rattle.call_steps.specs.Sources.{shown_call_fault, piece_fault, program_fault, text_fault, token_fault};
+ghost use Rattle.call_steps.specs.Sources.{shown_call_fault, program_fault, text_fault};
 
 use call_replies::source_faults::SourceFault;
 use flow_types::TypeError;
@@ -12,32 +12,14 @@ pub(crate) fn text_fault(fault: TextError) -> Option<SourceFault>
     ensures { result ≡ text_fault fault }
 {
     match fault {
-        TextError::Pieces(fault) => piece_fault(fault),
-        TextError::Tokens(fault) => token_fault(fault),
-    }
-}
-
-/// The fault of a text's pieces as it is shown; want of memory is none.
-fn piece_fault(fault: LexError) -> Option<SourceFault>
-    ensures { result ≡ piece_fault fault }
-{
-    match fault {
-        LexError::BadByte(at) => Some(SourceFault::Byte(at)),
-        LexError::NumberTooBig(at) => Some(SourceFault::Number(at)),
-        LexError::NameTooLong(at) => Some(SourceFault::Name(at)),
-        LexError::Memory => None,
-    }
-}
-
-/// The fault of a text's tokens as it is shown; want of memory is none.
-fn token_fault(fault: ParseError) -> Option<SourceFault>
-    ensures { result ≡ token_fault fault }
-{
-    match fault {
-        ParseError::Unexpected(at) => Some(SourceFault::Unexpected(at)),
-        ParseError::EndOfText => Some(SourceFault::End),
-        ParseError::TooDeep(at) => Some(SourceFault::Deep(at)),
-        ParseError::Memory => None,
+        TextError::Pieces(LexError::BadByte(at)) => Some(SourceFault::Byte(at)),
+        TextError::Pieces(LexError::NumberTooBig(at)) => Some(SourceFault::Number(at)),
+        TextError::Pieces(LexError::NameTooLong(at)) => Some(SourceFault::Name(at)),
+        TextError::Pieces(LexError::Memory) => None,
+        TextError::Tokens(ParseError::Unexpected(at)) => Some(SourceFault::Unexpected(at)),
+        TextError::Tokens(ParseError::EndOfText) => Some(SourceFault::End),
+        TextError::Tokens(ParseError::TooDeep(at)) => Some(SourceFault::Deep(at)),
+        TextError::Tokens(ParseError::Memory) => None,
     }
 }
 

@@ -22,11 +22,11 @@ pub trait Request<'a> {
     /// What is found.
     type Words: Drop;
 
-    /// The work that the words ask for, if they ask for any.
-    ghost asks: { List Row → Option Work };
-
     /// The work on what is found.
     ghost work: { Self.Words → Work };
+
+    /// The work that the words ask for, if they ask for any.
+    ghost asks: { List Row → Option Work };
 
     /// What is known of the numbers among it.
     ghost Fits: { Self.Words → Type 0 };
@@ -63,14 +63,13 @@ pub struct NewFile<'a> {
     pub done: Done,
 }
 
+/// The file that a verb makes, or the reply to print instead.
+pub type Made<'a> = Result<NewFile<'a>, Reply<'a>>;
+
 /// A verb that writes one file, as its last step.
 pub trait Maker<'a>: Request<'a> {
-    /// Makes the file. `Err` is the reply to print instead.
-    fn make<F: Shelf>(
-        alloc: Global,
-        words: Self::Words,
-        shelf: &mut F,
-    ) -> Result<NewFile<'a>, Reply<'a>>
+    /// Makes the file.
+    fn make<F: Shelf>(alloc: Global, words: Self::Words, shelf: &mut F) -> Made<'a>
         requires { Self.Fits words }
         ensures made { IfOk result (λ file. HasReached
             (stage (F.seen shelf.old) (F.log shelf.old)) (stage (F.seen shelf.new) (F.log shelf.new))

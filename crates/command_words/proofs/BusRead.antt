@@ -112,32 +112,33 @@ module _ (s : Shape) (id : Text) (index : arg_by_index s.rules 1 ≡ Some (names
       by-first h word words true _ (starts-behind s id index h word other)
       (more-behind words (settled s.rules h).rows (word ∷ []) h.skip)
 
+  behind-comes : (h : Held) (words : List Text)
+      → last s (at s h idle 1 false) (codes "--" ∷ words) ≡ last s (at s h idle 1 true) words
+  behind-comes h words =
+      led-last s (at s h idle 1 false) (at s h idle 1 true) (45 ∷ 45 ∷ []) words [] (dashed s h idle 1)
+
+  behind-wrong : (h : Held) (words : List Text)
+      → wrong s (at s h idle 1 false) (codes "--" ∷ words) ≡ wrong s (at s h idle 1 true) words
+  behind-wrong h words =
+      led-wrong s (at s h idle 1 false) (at s h idle 1 true) (45 ∷ 45 ∷ []) words [] (dashed s h idle 1)
+
   behind-dashes : (h : Held) (words : List Text) (us : List Use) → Walks s (at s h idle 1 true) words us
       → Walks s (at s h idle 1 false) (codes "--" ∷ words) us
-  behind-dashes h words us rest =
-      let now = at s h idle 1 false in
-      let next = at s h idle 1 true in
-      let comes : last s now (codes "--" ∷ words) ≡ last s next words =
-      led-last s now next (45 ∷ 45 ∷ []) words [] (dashed s h idle 1) in
-      record {
-        faults = led-wrong s now next (45 ∷ 45 ∷ []) words [] (dashed s h idle 1) ∙ rest.faults;
-        rows = ap (λ (w : Walk). (settled s.rules w.held).rows) comes ∙ rest.rows;
-        goes_on = ap (λ (w : Walk). w.stopped) comes ∙ rest.goes_on;
-      }
+  behind-dashes h words us rest = record {
+    faults = behind-wrong h words ∙ rest.faults;
+    rows = ap (λ (w : Walk). (settled s.rules w.held).rows) (behind-comes h words) ∙ rest.rows;
+    goes_on = ap (λ (w : Walk). w.stopped) (behind-comes h words) ∙ rest.goes_on;
+  }
 
   going-behind : (rows : List Row) (names : List Text) (skip : ℕ) (words : List Text) (us : List Use)
       → GoesOn (with_names rows names skip true) rows words us
       → GoesOn (with_names rows names skip false) rows (codes "--" ∷ words) us
   going-behind rows names skip words us rest =
       let h = hold s rows (Some (id, names)) skip in
-      let now = at s h idle 1 false in
-      let next = at s h idle 1 true in
-      let comes : last s now (codes "--" ∷ words) ≡ last s next words =
-      led-last s now next (45 ∷ 45 ∷ []) words [] (dashed s h idle 1) in
       record {
-        faults = led-wrong s now next (45 ∷ 45 ∷ []) words [] (dashed s h idle 1) ∙ rest.faults;
-        rows_are = ap (λ (w : Walk). (settled s.rules w.held).rows) comes ∙ rest.rows_are;
-        goes_on = ap (λ (w : Walk). w.stopped) comes ∙ rest.goes_on;
+        faults = behind-wrong h words ∙ rest.faults;
+        rows_are = ap (λ (w : Walk). (settled s.rules w.held).rows) (behind-comes h words) ∙ rest.rows_are;
+        goes_on = ap (λ (w : Walk). w.stopped) (behind-comes h words) ∙ rest.goes_on;
       }
 
   module _ (options : List Text) (table : Table s options [])

@@ -10,8 +10,10 @@ use Rattle.clap.specs.Takes.{is_given}
 use Rattle.clap.specs.Walk.{Row, Rule, Text, arg_by_id, arg_by_long}
 use Rattle.clap.specs.Simple.{App, Shape, filled_from, help_rule, new_app, with_rule}
 use Rattle.command_words.specs.declared.verbs.Argument.{Argument}
-use Rattle.command_words.specs.declared.verbs.Argument.TheVariants.{Word, Valued, Flag}
-use Rattle.command_words.specs.Prelude.{IsAmong, VerbRow, assemble_row, check_row, command_of, compile_row, disassemble_row, evaluate_row, infer_row, rule_for, run_row, sample_row, trace_row, with_all}
+use Rattle.command_words.specs.declared.verbs.Argument.TheVariants.{Word, Words, Valued, Flag}
+use Rattle.command_words.specs.declared.verbs.Verb.{Verb}
+use Rattle.command_words.specs.declared.verbs.Verb.TheVariants.{Check, Trace, Run, Assemble, Disassemble, Evaluate, Compile, Sample, Bus, Infer}
+use Rattle.command_words.specs.Prelude.{IsAmong, VerbRow, assemble_row, check_row, command_of, compile_row, disassemble_row, evaluate_row, infer_row, row_of, rule_for, run_row, sample_row, trace_row, with_all}
 use Rattle.command_words.proofs.WordLooks.{lacks-test}
 use Rattle.command_words.proofs.WordCommands.{AllApart, AllKnown, AllKnownFlags, AreRules, apart-of}
 use Rattle.command_words.proofs.WordsAsked.{IsVerb, shape}
@@ -354,29 +356,14 @@ row-verb row word test places =
 
 -- ---- the verbs
 
-pub check-verb : IsVerbRow check_row
-check-verb = row-verb check_row refl refl (refl, refl, refl)
-
-pub trace-verb : IsVerbRow trace_row
-trace-verb = row-verb trace_row refl refl (refl, refl, (refl, refl, refl))
-
-pub run-verb : IsVerbRow run_row
-run-verb = row-verb run_row refl refl (refl, refl, (refl, refl, (refl, refl, refl)))
-
-pub assemble-verb : IsVerbRow assemble_row
-assemble-verb = row-verb assemble_row refl refl (refl, refl, (refl, refl, refl))
-
-pub disassemble-verb : IsVerbRow disassemble_row
-disassemble-verb = row-verb disassemble_row refl refl (refl, refl, (refl, refl, refl))
-
-pub evaluate-verb : IsVerbRow evaluate_row
-evaluate-verb = row-verb evaluate_row refl refl (refl, refl, (refl, refl, (refl, refl, refl)))
-
-pub compile-verb : IsVerbRow compile_row
-compile-verb = row-verb compile_row refl refl (refl, refl, (refl, refl, refl))
-
-pub sample-verb : IsVerbRow sample_row
-sample-verb = row-verb sample_row refl refl (refl, refl, (refl, refl, refl))
-
-pub infer-verb : IsVerbRow infer_row
-infer-verb = row-verb infer_row refl refl (refl, refl, (refl, refl, refl))
+pub verb-row : (verb : Verb) → (row_of verb).place ≡ Word → IsVerbRow (row_of verb)
+verb-row Check word = row-verb check_row word refl (refl, refl, refl)
+verb-row Trace word = row-verb trace_row word refl (refl, refl, (refl, refl, refl))
+verb-row Run word = row-verb run_row word refl (refl, refl, (refl, refl, (refl, refl, refl)))
+verb-row Assemble word = row-verb assemble_row word refl (refl, refl, (refl, refl, refl))
+verb-row Disassemble word = row-verb disassemble_row word refl (refl, refl, (refl, refl, refl))
+verb-row Evaluate word = row-verb evaluate_row word refl (refl, refl, (refl, refl, (refl, refl, refl)))
+verb-row Compile word = row-verb compile_row word refl (refl, refl, (refl, refl, refl))
+verb-row Sample word = row-verb sample_row word refl (refl, refl, (refl, refl, refl))
+verb-row Bus word = absurd (let e : ◌≡◌ {A = Argument} Words Word = word in cc)
+verb-row Infer word = row-verb infer_row word refl (refl, refl, (refl, refl, refl))

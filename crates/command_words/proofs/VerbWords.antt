@@ -6,8 +6,9 @@ use Rattle.std.specs.Str.{bytes_eq}
 use Rattle.clap.specs.Walk.{Row, Text, first_of}
 use Rattle.command_words.specs.Prelude.{check_asks, compile_asks, compile_named, evaluate_asks, evaluate_named, run_asks, run_named, sample_asks, sample_named, trace_asks, trace_named, two_asks, AreTexts, IsAmong, Part, Says, compile_options, has_flag, names_in, run_options, value_in, asked_by, block_log_given, flag_given, items_given, number_given, seed_given, two_named, VerbRow, check_row, command_of, compile_row, evaluate_row, row_of_two, run_row, sample_row, trace_row, Works, asked_for, asked_work, verb_named, window_given, AskExactly, AsksByOne, AsksByTwo, AsksToCompile, AsksToEvaluate, AsksToRun, AsksToSample, AsksToTrace, WordsAsk, verb_names}
 use Rattle.command_words.specs.declared.windows.Window.{Window}
+use Rattle.command_words.specs.declared.verbs.Verb.TheVariants.{Check, Trace, Run, Assemble, Disassemble, Evaluate, Compile, Sample, Infer}
 use Rattle.command_words.proofs.BusWords.{bus-words}
-use Rattle.command_words.proofs.VerbCommands.{IsVerbRow, assemble-verb, check-verb, compile-verb, disassemble-verb, evaluate-verb, infer-verb, run-verb, sample-verb, trace-verb}
+use Rattle.command_words.proofs.VerbCommands.{IsVerbRow, verb-row}
 use Rattle.command_words.proofs.WordsAsked.{SameLength, SaysAll, asked-says, flag-said, name-said, rows_behind, says-asked, two-given, value-said}
 use Rattle.command_words.proofs.WordsFound.{name_at}
 use Rattle.command_words.proofs.WordsRead.{same-text}
@@ -106,15 +107,15 @@ module _ {W : Type 0} (works : Works W) where
       → asked_behind check_row (check_asks works.check) words ≡ Some (works.check t)
   check-made words parts t given =
       let says = says-all check_row words (t ∷ []) parts given tt in
-      row-asked check_row check-verb (check_asks works.check) words parts says
+      row-asked check_row (verb-row Check refl) (check_asks works.check) words parts says
       ∙ ap (option_map works.check)
-      (name-of check_row check-verb words parts says (t ∷ []) given.are (codes "OBJ") (inl refl))
+      (name-of check_row (verb-row Check refl) words parts says (t ∷ []) given.are (codes "OBJ") (inl refl))
 
   check-words : AskExactly works (codes "check") (AsksByOne works.check)
   unfolding verb_named asked_for
   check-words words work texts = (
     (λ asked.
-        let found = asked-row check_row check-verb (check_asks works.check) words work texts asked in
+        let found = asked-row check_row (verb-row Check refl) (check_asks works.check) words work texts asked in
         let one = one-name (names_in found.0) (codes "OBJ") found.1.names in
         let says = all-says check_row words (one.0 ∷ []) found.0 found.1 one.1 in
         record {
@@ -166,22 +167,23 @@ module _ {W : Type 0} (works : Works W) where
   assemble-words : AskExactly works (codes "asm") (AsksByTwo works.assemble)
   unfolding verb_named asked_for
   assemble-words words work texts = (
-    two-asked (codes "asm") (codes "TEXT") (codes "OUT") refl works.assemble assemble-verb words work texts,
-    asked-two (codes "asm") (codes "TEXT") (codes "OUT") refl works.assemble assemble-verb words work,
+    two-asked (codes "asm") (codes "TEXT") (codes "OUT") refl works.assemble (verb-row Assemble refl) words work texts,
+    asked-two (codes "asm") (codes "TEXT") (codes "OUT") refl works.assemble (verb-row Assemble refl) words work,
   )
 
   disassemble-words : AskExactly works (codes "dis") (AsksByTwo works.disassemble)
   unfolding verb_named asked_for
   disassemble-words words work texts = (
-    two-asked (codes "dis") (codes "OBJ") (codes "OUT") refl works.disassemble disassemble-verb words work texts,
-    asked-two (codes "dis") (codes "OBJ") (codes "OUT") refl works.disassemble disassemble-verb words work,
+    two-asked (codes "dis") (codes "OBJ") (codes "OUT") refl works.disassemble (verb-row Disassemble refl) words work
+        texts,
+    asked-two (codes "dis") (codes "OBJ") (codes "OUT") refl works.disassemble (verb-row Disassemble refl) words work,
   )
 
   infer-words : AskExactly works (codes "infer") (AsksByTwo works.infer)
   unfolding verb_named asked_for
   infer-words words work texts = (
-    two-asked (codes "infer") (codes "OBJ") (codes "OUT") refl works.infer infer-verb words work texts,
-    asked-two (codes "infer") (codes "OBJ") (codes "OUT") refl works.infer infer-verb words work,
+    two-asked (codes "infer") (codes "OBJ") (codes "OUT") refl works.infer (verb-row Infer refl) words work texts,
+    asked-two (codes "infer") (codes "OBJ") (codes "OUT") refl works.infer (verb-row Infer refl) words work,
   )
 
   -- ---- `trace`
@@ -195,14 +197,14 @@ module _ {W : Type 0} (works : Works W) where
   trace-made words parts t u given =
       let says = says-all trace_row words (t ∷ u ∷ []) parts given tt in
       let rows = found_by trace_row parts in
-      let name = name-of trace_row trace-verb words parts says (t ∷ u ∷ []) given.are in
+      let name = name-of trace_row (verb-row Trace refl) words parts says (t ∷ u ∷ []) given.are in
       let first : first_of (codes "OBJ") rows ≡ Some t = name (codes "OBJ") (inl refl) in
       let second : first_of (codes "INPUT") rows ≡ Some u = name (codes "INPUT") (inr (inl refl)) in
-      let cycles = value-of trace_row trace-verb words parts says (codes "cycles") (inl refl) in
-      let seed = value-of trace_row trace-verb words parts says (codes "seed") (inr (inl refl)) in
-      let paths = flag-of trace_row trace-verb words parts says (codes "paths") (inl refl) in
-      let recursive = flag-of trace_row trace-verb words parts says (codes "recursive") (inr (inl refl)) in
-      row-asked trace_row trace-verb (trace_asks works.trace) words parts says
+      let cycles = value-of trace_row (verb-row Trace refl) words parts says (codes "cycles") (inl refl) in
+      let seed = value-of trace_row (verb-row Trace refl) words parts says (codes "seed") (inr (inl refl)) in
+      let paths = flag-of trace_row (verb-row Trace refl) words parts says (codes "paths") (inl refl) in
+      let recursive = flag-of trace_row (verb-row Trace refl) words parts says (codes "recursive") (inr (inl refl)) in
+      row-asked trace_row (verb-row Trace refl) (trace_asks works.trace) words parts says
       ∙ (λ k. trace_named works.trace (first k) (second k) (cycles k) (seed k) (first_of (codes "paths") rows)
       (first_of (codes "recursive") rows))
       ∙ (λ k. option_and_then (λ n. option_map (λ s. works.trace t u n s (paths k) (recursive k))
@@ -227,7 +229,7 @@ module _ {W : Type 0} (works : Works W) where
   unfolding verb_named asked_for
   trace-words words work texts = (
     (λ asked.
-        let found = asked-row trace_row trace-verb (trace_asks works.trace) words work texts asked in
+        let found = asked-row trace_row (verb-row Trace refl) (trace_asks works.trace) words work texts asked in
         let two = two-names (names_in found.0) (codes "OBJ") (codes "INPUT") found.1.names in
         let says = all-says trace_row words (two.0 ∷ two.1 ∷ []) found.0 found.1 two.2 in
         let given = trace-given words two.0 two.1 found.0 work says asked in
@@ -235,9 +237,9 @@ module _ {W : Type 0} (works : Works W) where
           object = two.0;
           input = two.1;
           parts = found.0;
+          says = says;
           cycles = given.0;
           seed = given.1;
-          says = says;
           cycles_given = given.2;
           seed_is = given.3;
           is = given.4;
@@ -259,13 +261,13 @@ module _ {W : Type 0} (works : Works W) where
   run-made words parts t u v given =
       let says = says-all run_row words (t ∷ u ∷ v ∷ []) parts given tt in
       let rows = found_by run_row parts in
-      let name = name-of run_row run-verb words parts says (t ∷ u ∷ v ∷ []) given.are in
+      let name = name-of run_row (verb-row Run refl) words parts says (t ∷ u ∷ v ∷ []) given.are in
       let first : first_of (codes "OBJ") rows ≡ Some t = name (codes "OBJ") (inl refl) in
       let second : first_of (codes "INPUT") rows ≡ Some u = name (codes "INPUT") (inr (inl refl)) in
       let third : first_of (codes "OUT") rows ≡ Some v = name (codes "OUT") (inr (inr (inl refl))) in
-      let cycles = value-of run_row run-verb words parts says (codes "cycles") (inl refl) in
-      let seed = value-of run_row run-verb words parts says (codes "seed") (inr (inl refl)) in
-      row-asked run_row run-verb (run_asks works.run) words parts says
+      let cycles = value-of run_row (verb-row Run refl) words parts says (codes "cycles") (inl refl) in
+      let seed = value-of run_row (verb-row Run refl) words parts says (codes "seed") (inr (inl refl)) in
+      row-asked run_row (verb-row Run refl) (run_asks works.run) words parts says
       ∙ (λ k. run_named works.run (first k) (second k) (third k) (cycles k) (seed k))
 
   pub run-given : (words : List Text) (object input output : Text) (parts : List Part) (work : W)
@@ -283,18 +285,19 @@ module _ {W : Type 0} (works : Works W) where
   unfolding verb_named asked_for
   run-words words work texts = (
     (λ asked.
-        let found = asked-row run_row run-verb (run_asks works.run) words work texts asked in
+        let found = asked-row run_row (verb-row Run refl) (run_asks works.run) words work texts asked in
         let names = three-names (names_in found.0) (codes "OBJ") (codes "INPUT") (codes "OUT") found.1.names in
-        let says = all-says run_row words (names.0 ∷ names.1 ∷ names.2 ∷ []) found.0 found.1 names.3 in
-        let given = run-given words names.0 names.1 names.2 found.0 work says asked in
+        let parts = found.0 in
+        let says = all-says run_row words (names.0 ∷ names.1 ∷ names.2 ∷ []) parts found.1 names.3 in
+        let given = run-given words names.0 names.1 names.2 parts work says asked in
         record {
           object = names.0;
           input = names.1;
           output = names.2;
-          parts = found.0;
+          parts = parts;
+          says = says;
           cycles = given.0;
           seed = given.1;
-          says = says;
           cycles_given = given.2;
           seed_is = given.3;
           is = given.4;
@@ -315,13 +318,13 @@ module _ {W : Type 0} (works : Works W) where
   evaluate-made words parts t u v given =
       let says = says-all evaluate_row words (t ∷ u ∷ v ∷ []) parts given tt in
       let rows = found_by evaluate_row parts in
-      let name = name-of evaluate_row evaluate-verb words parts says (t ∷ u ∷ v ∷ []) given.are in
+      let name = name-of evaluate_row (verb-row Evaluate refl) words parts says (t ∷ u ∷ v ∷ []) given.are in
       let first : first_of (codes "SRC") rows ≡ Some t = name (codes "SRC") (inl refl) in
       let second : first_of (codes "INPUT") rows ≡ Some u = name (codes "INPUT") (inr (inl refl)) in
       let third : first_of (codes "OUT") rows ≡ Some v = name (codes "OUT") (inr (inr (inl refl))) in
-      let turns = value-of evaluate_row evaluate-verb words parts says (codes "turns") (inl refl) in
-      let procs = flag-of evaluate_row evaluate-verb words parts says (codes "procs") (inl refl) in
-      row-asked evaluate_row evaluate-verb (evaluate_asks works.evaluate) words parts says
+      let turns = value-of evaluate_row (verb-row Evaluate refl) words parts says (codes "turns") (inl refl) in
+      let procs = flag-of evaluate_row (verb-row Evaluate refl) words parts says (codes "procs") (inl refl) in
+      row-asked evaluate_row (verb-row Evaluate refl) (evaluate_asks works.evaluate) words parts says
       ∙ (λ k. evaluate_named works.evaluate (first k) (second k) (third k) (turns k) (first_of (codes "procs") rows))
       ∙ (λ k. option_map (λ n. works.evaluate t u v n (procs k)) (number_given (value_in (codes "turns") parts)))
 
@@ -340,17 +343,19 @@ module _ {W : Type 0} (works : Works W) where
   unfolding verb_named asked_for
   evaluate-words words work texts = (
     (λ asked.
-        let found = asked-row evaluate_row evaluate-verb (evaluate_asks works.evaluate) words work texts asked in
+        let found =
+        asked-row evaluate_row (verb-row Evaluate refl) (evaluate_asks works.evaluate) words work texts asked in
         let names = three-names (names_in found.0) (codes "SRC") (codes "INPUT") (codes "OUT") found.1.names in
-        let says = all-says evaluate_row words (names.0 ∷ names.1 ∷ names.2 ∷ []) found.0 found.1 names.3 in
-        let given = evaluate-given words names.0 names.1 names.2 found.0 work says asked in
+        let parts = found.0 in
+        let says = all-says evaluate_row words (names.0 ∷ names.1 ∷ names.2 ∷ []) parts found.1 names.3 in
+        let given = evaluate-given words names.0 names.1 names.2 parts work says asked in
         record {
           source = names.0;
           input = names.1;
           output = names.2;
-          parts = found.0;
-          turns = given.0;
+          parts = parts;
           says = says;
+          turns = given.0;
           turns_given = given.1;
           is = given.2;
         }),
@@ -372,14 +377,14 @@ module _ {W : Type 0} (works : Works W) where
   compile-made words parts t u given =
       let says = says-all compile_row words (t ∷ u ∷ []) parts given tt in
       let rows = found_by compile_row parts in
-      let name = name-of compile_row compile-verb words parts says (t ∷ u ∷ []) given.are in
+      let name = name-of compile_row (verb-row Compile refl) words parts says (t ∷ u ∷ []) given.are in
       let first : first_of (codes "SRC") rows ≡ Some t = name (codes "SRC") (inl refl) in
       let second : first_of (codes "OUT") rows ≡ Some u = name (codes "OUT") (inr (inl refl)) in
-      let block_log = value-of compile_row compile-verb words parts says (codes "block-log") (inl refl) in
-      let window = value-of compile_row compile-verb words parts says (codes "window") (inr (inl refl)) in
-      let procs = flag-of compile_row compile-verb words parts says (codes "procs") (inl refl) in
-      let fast = flag-of compile_row compile-verb words parts says (codes "fast") (inr (inl refl)) in
-      row-asked compile_row compile-verb (compile_asks works.compile) words parts says
+      let block_log = value-of compile_row (verb-row Compile refl) words parts says (codes "block-log") (inl refl) in
+      let window = value-of compile_row (verb-row Compile refl) words parts says (codes "window") (inr (inl refl)) in
+      let procs = flag-of compile_row (verb-row Compile refl) words parts says (codes "procs") (inl refl) in
+      let fast = flag-of compile_row (verb-row Compile refl) words parts says (codes "fast") (inr (inl refl)) in
+      row-asked compile_row (verb-row Compile refl) (compile_asks works.compile) words parts says
       ∙ (λ k. compile_named works.compile (first k) (second k) (block_log k) (window k) (first_of (codes "fast") rows)
       (first_of (codes "procs") rows))
       ∙ (λ k. option_and_then (λ w. option_map (λ at. works.compile t u w at (fast k) (procs k))
@@ -403,7 +408,7 @@ module _ {W : Type 0} (works : Works W) where
   unfolding verb_named asked_for
   compile-words words work texts = (
     (λ asked.
-        let found = asked-row compile_row compile-verb (compile_asks works.compile) words work texts asked in
+        let found = asked-row compile_row (verb-row Compile refl) (compile_asks works.compile) words work texts asked in
         let two = two-names (names_in found.0) (codes "SRC") (codes "OUT") found.1.names in
         let says = all-says compile_row words (two.0 ∷ two.1 ∷ []) found.0 found.1 two.2 in
         let given = compile-given words two.0 two.1 found.0 work says asked in
@@ -411,9 +416,9 @@ module _ {W : Type 0} (works : Works W) where
           source = two.0;
           output = two.1;
           parts = found.0;
+          says = says;
           block_log = given.0;
           window = given.1;
-          says = says;
           block_log_is = given.2;
           window_is = given.3;
           is = given.4;
@@ -436,12 +441,12 @@ module _ {W : Type 0} (works : Works W) where
   sample-made words parts t u given =
       let says = says-all sample_row words (t ∷ u ∷ []) parts given tt in
       let rows = found_by sample_row parts in
-      let name = name-of sample_row sample-verb words parts says (t ∷ u ∷ []) given.are in
+      let name = name-of sample_row (verb-row Sample refl) words parts says (t ∷ u ∷ []) given.are in
       let first : first_of (codes "N") rows ≡ Some t = name (codes "N") (inl refl) in
       let second : first_of (codes "OUT") rows ≡ Some u = name (codes "OUT") (inr (inl refl)) in
-      let seed = value-of sample_row sample-verb words parts says (codes "seed") (inl refl) in
-      let fast = flag-of sample_row sample-verb words parts says (codes "fast") (inl refl) in
-      row-asked sample_row sample-verb (sample_asks works.sample) words parts says
+      let seed = value-of sample_row (verb-row Sample refl) words parts says (codes "seed") (inl refl) in
+      let fast = flag-of sample_row (verb-row Sample refl) words parts says (codes "fast") (inl refl) in
+      row-asked sample_row (verb-row Sample refl) (sample_asks works.sample) words parts says
       ∙ (λ k. sample_named works.sample (first k) (second k) (seed k) (first_of (codes "fast") rows))
       ∙ (λ k. option_and_then (λ n. option_map (λ s. works.sample (fast k) n u)
       (seed_given (value_in (codes "seed") parts)))
@@ -451,7 +456,7 @@ module _ {W : Type 0} (works : Works W) where
   unfolding verb_named asked_for
   sample-words words work texts = (
     (λ asked.
-        let found = asked-row sample_row sample-verb (sample_asks works.sample) words work texts asked in
+        let found = asked-row sample_row (verb-row Sample refl) (sample_asks works.sample) words work texts asked in
         let two = two-names (names_in found.0) (codes "N") (codes "OUT") found.1.names in
         let says = all-says sample_row words (two.0 ∷ two.1 ∷ []) found.0 found.1 two.2 in
         let given =
@@ -461,9 +466,9 @@ module _ {W : Type 0} (works : Works W) where
           number = two.0;
           output = two.1;
           parts = found.0;
+          says = says;
           items = given.0;
           seed = given.1;
-          says = says;
           items_are = given.2;
           seed_is = given.3;
           is = given.4;

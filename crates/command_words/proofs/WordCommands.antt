@@ -37,25 +37,16 @@ abbrev ShortFound : Option Rule → Type 0
 ShortFound found = (found ≡ None) ⊎ (found ≡ Some built_help)
 
 module _ (options flags : List Text) where
-  by-option : (rules : List Rule) (name o : Text) → IsAmong options o → (b : Bool) → bytes_eq o name ≡ b
+  by-long : (rule : Rule) (rules : List Rule) (name o : Text)
+      → arg_by_long (rule ∷ rules) name ≡ cond (bytes_eq o name || false) (Some rule) (arg_by_long rules name)
+      → IsAmong options o ⊎ IsAmong flags o → (b : Bool) → bytes_eq o name ≡ b
       → LongFound options flags name (arg_by_long rules name)
-      → LongFound options flags name (arg_by_long (option_rule o ∷ rules) name)
-  by-option rules name o among true is rest =
-      inr (inr (inl (subst (λ (t : Text). IsAmong options t) (text-is o name is) among)))
-  by-option rules name o among false is rest =
-      subst (λ (b : Bool). LongFound options flags name (cond (b || false) (Some (option_rule o)) (arg_by_long rules
-      name)))
-      (sym is) rest
-
-  by-flag : (rules : List Rule) (name f : Text) → IsAmong flags f → (b : Bool) → bytes_eq f name ≡ b
-      → LongFound options flags name (arg_by_long rules name)
-      → LongFound options flags name (arg_by_long (flag_rule f ∷ rules) name)
-  by-flag rules name f among true is rest =
-      inr (inr (inr (subst (λ (t : Text). IsAmong flags t) (text-is f name is) among)))
-  by-flag rules name f among false is rest =
-      subst (λ (b : Bool). LongFound options flags name (cond (b || false) (Some (flag_rule f)) (arg_by_long rules
-      name)))
-      (sym is) rest
+      → LongFound options flags name (arg_by_long (rule ∷ rules) name)
+  by-long rule rules name o looks among true is rest =
+      inr (inr (subst (λ (t : Text). IsAmong options t ⊎ IsAmong flags t) (text-is o name is) among))
+  by-long rule rules name o looks among false is rest =
+      subst (LongFound options flags name)
+      (sym (looks ∙ ap (λ (b : Bool). cond (b || false) (Some rule) (arg_by_long rules name)) is)) rest
 
   by-help : (rules : List Rule) (name : Text) (b : Bool) → bytes_eq (codes "help") name ≡ b
       → LongFound options flags name (arg_by_long rules name)
@@ -76,11 +67,11 @@ module _ (options flags : List Text) where
       (⊎_elim
       (λ (opt : (o : Text) × IsAmong options o × (a ≡ option_rule o)).
       subst (λ (r : Rule). LongFound options flags name (arg_by_long (r ∷ rules) name)) (sym opt.2)
-      (by-option rules name opt.0 opt.1 (bytes_eq opt.0 name) refl rest))
+      (by-long (option_rule opt.0) rules name opt.0 refl (inl opt.1) (bytes_eq opt.0 name) refl rest))
       (⊎_elim
       (λ (flag : (f : Text) × IsAmong flags f × (a ≡ flag_rule f)).
       subst (λ (r : Rule). LongFound options flags name (arg_by_long (r ∷ rules) name)) (sym flag.2)
-      (by-flag rules name flag.0 flag.1 (bytes_eq flag.0 name) refl rest))
+      (by-long (flag_rule flag.0) rules name flag.0 refl (inr flag.1) (bytes_eq flag.0 name) refl rest))
       (λ (help : a ≡ built_help).
       subst (λ (r : Rule). LongFound options flags name (arg_by_long (r ∷ rules) name)) (sym help)
       (by-help rules name (bytes_eq (codes "help") name) refl rest)))) is

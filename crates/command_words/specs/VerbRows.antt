@@ -24,15 +24,19 @@ pub record VerbRow : Type 0 where
   pub options : List Text
   pub flags : List Text
 
--- the row of a verb with two names and nothing else
-abbrev pub row_of_two : Text → Text → Text → VerbRow
-row_of_two name first second = record {
+-- the row of a verb whose positional words are each under a name of its own
+abbrev pub row_with : Text → List Text → List Text → List Text → VerbRow
+row_with name places options flags = record {
   name = name;
   place = Word;
-  places = first ∷ second ∷ [];
-  options = [];
-  flags = [];
+  places = places;
+  options = options;
+  flags = flags;
 }
+
+-- the row of a verb with two names and nothing else
+abbrev pub row_of_two : Text → Text → Text → VerbRow
+row_of_two name first second = row_with name (first ∷ second ∷ []) [] []
 
 -- a command with these arguments more
 abbrev pub with_all : App → Argument → List Text → App
@@ -46,31 +50,17 @@ command_of row =
 -- ---- the verbs
 
 abbrev pub check_row : VerbRow
-check_row = record {
-  name = codes "check";
-  place = Word;
-  places = codes "OBJ" ∷ [];
-  options = [];
-  flags = [];
-}
+check_row = row_with (codes "check") (codes "OBJ" ∷ []) [] []
 
 abbrev pub trace_row : VerbRow
-trace_row = record {
-  name = codes "trace";
-  place = Word;
-  places = codes "OBJ" ∷ codes "INPUT" ∷ [];
-  options = codes "cycles" ∷ codes "seed" ∷ [];
-  flags = codes "paths" ∷ codes "recursive" ∷ [];
-}
+trace_row =
+    row_with (codes "trace") (codes "OBJ" ∷ codes "INPUT" ∷ []) (codes "cycles" ∷ codes "seed" ∷ [])
+    (codes "paths" ∷ codes "recursive" ∷ [])
 
 abbrev pub run_row : VerbRow
-run_row = record {
-  name = codes "run";
-  place = Word;
-  places = codes "OBJ" ∷ codes "INPUT" ∷ codes "OUT" ∷ [];
-  options = codes "cycles" ∷ codes "seed" ∷ [];
-  flags = codes "recursive" ∷ [];
-}
+run_row =
+    row_with (codes "run") (codes "OBJ" ∷ codes "INPUT" ∷ codes "OUT" ∷ []) (codes "cycles" ∷ codes "seed" ∷ [])
+    (codes "recursive" ∷ [])
 
 abbrev pub assemble_row : VerbRow
 assemble_row = row_of_two (codes "asm") (codes "TEXT") (codes "OUT")
@@ -79,31 +69,17 @@ abbrev pub disassemble_row : VerbRow
 disassemble_row = row_of_two (codes "dis") (codes "OBJ") (codes "OUT")
 
 abbrev pub evaluate_row : VerbRow
-evaluate_row = record {
-  name = codes "eval";
-  place = Word;
-  places = codes "SRC" ∷ codes "INPUT" ∷ codes "OUT" ∷ [];
-  options = codes "turns" ∷ [];
-  flags = codes "procs" ∷ [];
-}
+evaluate_row =
+    row_with (codes "eval") (codes "SRC" ∷ codes "INPUT" ∷ codes "OUT" ∷ []) (codes "turns" ∷ [])
+    (codes "procs" ∷ [])
 
 abbrev pub compile_row : VerbRow
-compile_row = record {
-  name = codes "compile";
-  place = Word;
-  places = codes "SRC" ∷ codes "OUT" ∷ [];
-  options = codes "block-log" ∷ codes "window" ∷ [];
-  flags = codes "procs" ∷ codes "fast" ∷ [];
-}
+compile_row =
+    row_with (codes "compile") (codes "SRC" ∷ codes "OUT" ∷ []) (codes "block-log" ∷ codes "window" ∷ [])
+    (codes "procs" ∷ codes "fast" ∷ [])
 
 abbrev pub sample_row : VerbRow
-sample_row = record {
-  name = codes "sample";
-  place = Word;
-  places = codes "N" ∷ codes "OUT" ∷ [];
-  options = codes "seed" ∷ [];
-  flags = codes "fast" ∷ [];
-}
+sample_row = row_with (codes "sample") (codes "N" ∷ codes "OUT" ∷ []) (codes "seed" ∷ []) (codes "fast" ∷ [])
 
 abbrev pub bus_row : VerbRow
 bus_row = record {

@@ -7,12 +7,11 @@
 //! `Works` of `specs/Verbs`. `asked_work` is what words ask for, given these functions. Which words ask for what is
 //! proved in `proofs/VerbWords`, as people write command lines (`specs/CommandLines`, `specs/WordsAsk`).
 //!
-//! To add a verb, add its words to `src/rows.rt`, its row to `specs/VerbRows`, and what it asks for to `specs/Asks`.
-//! Then add it to the tables in `specs/Verbs`, `specs/VerbLines` and `src/verbs.rt`, to `specs/WordsAsk`, and to
-//! `proofs/VerbRows`, `proofs/VerbCommands` and `proofs/VerbWords`. No other verb's words change.
+//! To add a verb, add its row to `specs/VerbRows`, and what it asks for to `specs/Asks`. Then add it to the tables in
+//! `specs/Verbs`, `specs/VerbLines` and `src/verbs.rt`, to `specs/WordsAsk`, and to `proofs/VerbRows`,
+//! `proofs/VerbCommands` and `proofs/VerbWords`. No other verb's words change.
 #![tactic(auto)]
 
 pub mod options;
-mod rows;
 pub mod verbs;
 pub mod windows;

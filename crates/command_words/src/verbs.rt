@@ -5,7 +5,6 @@ ghost use Rattle.command_words.specs.VerbRows.{command_of, rule_for, with_all};
 ghost use Rattle.command_words.specs.Verbs.{row_of, verb_named};
 
 use crate::options::matches_in;
-use crate::rows;
 use clap::{Arg, ArgAction, ArgMatches, Command};
 use gr_base::Memory;
 use std::alloc::Global;
@@ -63,6 +62,28 @@ pub struct VerbWords<'a> {
     pub flags: &'a [&'a str],
 }
 
+/// The words of a verb whose positional words are of the kind [`Argument::Word`].
+fn words<'a>(
+    name: &'a str,
+    places: &'a [&'a str],
+    options: &'a [&'a str],
+    flags: &'a [&'a str],
+) -> VerbWords<'a>
+    ensures name { result.name.now ≡ name.now }
+    ensures place { result.place ≡ Argument.Word }
+    ensures places { texts result.places.now ≡ texts places.now }
+    ensures options { texts result.options.now ≡ texts options.now }
+    ensures flags { texts result.flags.now ≡ texts flags.now }
+{
+    VerbWords {
+        name,
+        place: Argument::Word,
+        places,
+        options,
+        flags,
+    }
+}
+
 /// The words that each verb takes: the table that a new verb is added to.
 fn words_of<'a>(verb: Verb) -> VerbWords<'a>
     ensures name { result.name.now ≡ (row_of verb).name }
@@ -72,16 +93,34 @@ fn words_of<'a>(verb: Verb) -> VerbWords<'a>
     ensures flags { texts result.flags.now ≡ (row_of verb).flags }
 {
     match verb {
-        Verb::Check => rows::CHECK,
-        Verb::Trace => rows::TRACE,
-        Verb::Run => rows::RUN,
-        Verb::Assemble => rows::ASSEMBLE,
-        Verb::Disassemble => rows::DISASSEMBLE,
-        Verb::Evaluate => rows::EVALUATE,
-        Verb::Compile => rows::COMPILE,
-        Verb::Sample => rows::SAMPLE,
-        Verb::Bus => rows::BUS,
-        Verb::Infer => rows::INFER,
+        Verb::Check => words("check", &["OBJ"], &[], &[]),
+        Verb::Trace => words(
+            "trace",
+            &["OBJ", "INPUT"],
+            &["cycles", "seed"],
+            &["paths", "recursive"],
+        ),
+        Verb::Run => words(
+            "run",
+            &["OBJ", "INPUT", "OUT"],
+            &["cycles", "seed"],
+            &["recursive"],
+        ),
+        Verb::Assemble => words("asm", &["TEXT", "OUT"], &[], &[]),
+        Verb::Disassemble => words("dis", &["OBJ", "OUT"], &[], &[]),
+        Verb::Evaluate => words("eval", &["SRC", "INPUT", "OUT"], &["turns"], &["procs"]),
+        Verb::Compile => words(
+            "compile",
+            &["SRC", "OUT"],
+            &["block-log", "window"],
+            &["procs", "fast"],
+        ),
+        Verb::Sample => words("sample", &["N", "OUT"], &["seed"], &["fast"]),
+        Verb::Bus => VerbWords {
+            place: Argument::Words,
+            ..words("bus", &["NAMES"], &["cycles", "seed"], &[])
+        },
+        Verb::Infer => words("infer", &["OBJ", "OUT"], &[], &[]),
     }
 }
 

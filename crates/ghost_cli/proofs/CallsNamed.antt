@@ -15,7 +15,7 @@ use Rattle.note_infer.specs.declared.faults.InferError.{InferError}
 use Rattle.call_replies.specs.declared.replies.Verdict.{Verdict}
 use Rattle.call_replies.specs.declared.replies.Done.{Done}
 use Rattle.call_replies.specs.declared.source_faults.SourceFault.{SourceFault}
-use Rattle.command_words.specs.Prelude.{AreTexts, IsAmong, Part, Says, Text, Pair, in_pairs, pairs_of, flags_of, name_of, options_of, verb_names, texts}
+use Rattle.command_words.specs.Prelude.{AreTexts, Part, Says, Text, Pair, in_pairs, pairs_of, flags_of, name_of, options_of, texts}
 use Rattle.command_words.specs.declared.verbs.Verb.{Verb}
 use Rattle.command_words.specs.declared.verbs.Verb.TheVariants.{Assemble, Bus, Check, Compile, Disassemble, Evaluate, Infer, Run, Sample, Trace}
 use Rattle.call_steps.specs.declared.targets.Target.{Target}
@@ -23,7 +23,7 @@ use Rattle.call_laws.specs.Prelude.{assemble_work, check_work, disassemble_work,
 use Rattle.machine_verbs.specs.Prelude.{Read, bus_work, none_read, on_plan, one_read, shares_bus, with_cores, with_halts, on_halt, run_work, shows_on, trace_work}
 use Rattle.call_steps.specs.Prelude.{AsksOn, CallsOf, Follows, Makes, NoCalls, ReadFails, ReadsOn, StopsHere, TriesWrite, WritesLast, compile_work, on_compiled, AreFiles, CallsItsFiles, FailsToRead, InOrder, Log, NoFurther, ReadsNext, WritesOutput, Made, Answer, Question, on_judged, or_ends, with_accepted, with_assembly, with_object, with_source, with_variables, Asks, Ends, Reads, Work, Writes}
 use Rattle.command_words.proofs.VerbWords.{words-ask}
-use Rattle.call_laws.proofs.EachVerb.{each-verb}
+use Rattle.call_laws.proofs.EachVerb.{asks-nothing, each-verb}
 use Rattle.std.specs.Borrow.{Bor}
 
 -- ---- the calls that follow a work, by its kind
@@ -328,16 +328,11 @@ module _ (more : List Text) (texts : AreTexts more) (work : Work) (before after 
       calls-files Infer more (a.first ∷ a.second ∷ []) (a.first ∷ []) a.parts (Some a.second) before after a.says refl
       (in-turn (Some a.second) (a.first ∷ []) _ a.is (infer-turn (Some a.second) a.second refl a.first))
 
-  of-none : (verb : Text) → (IsAmong verb_names verb → ⊥) → OfVerb verb
-  of-none verb unknown asked = absurd (none-asked (sym ((words-ask works).no_verb verb more unknown) ∙ asked))
-    where
-      none-asked : None ≡ Some work → ⊥
-      none-asked e = let f : ◌≡◌ {A = Option Work} None (Some work) = e in cc
-
   of-verb : (verb : Text) → OfVerb verb
   of-verb =
       each-verb (λ (verb : Text). OfVerb verb) of-check of-trace of-run of-assemble of-disassemble of-evaluate
-      of-compile of-sample of-bus of-infer of-none
+      of-compile of-sample of-bus of-infer
+      (λ verb unknown asked. absurd (asks-nothing verb more work unknown asked))
 
 calls-named : (words : List Text) → AreTexts words → (work : Work) → work_of words ≡ Some work → (before after : Log)
     → Follows work before after → CallsItsFiles words before after

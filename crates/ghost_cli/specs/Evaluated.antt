@@ -4,8 +4,8 @@ use Rattle.run_data.specs.OutputText.{output_of}
 use Rattle.src_tree.specs.Meaning.{meaning}
 use Rattle.src_tree.specs.Trees.{Source}
 use Rattle.flow_types.specs.Wants.{declared_wants}
-use Rattle.ghost_cli.specs.declared.evaluate.Left.{Left}
-use Rattle.ghost_cli.specs.declared.evaluate.Left.TheVariants.{Done, Spent}
+use Rattle.ghost_cli.specs.declared.evaluation.Left.{Left}
+use Rattle.ghost_cli.specs.declared.evaluation.Left.TheVariants.{Done, Spent}
 
 abbrev pub LeavesText : Source → List (List ℤ) → ℕ → Left → Type 0
 LeavesText p inputs turns (Done text) =

@@ -1,13 +1,14 @@
 ghost use Rattle.std.specs.Prelude.{◌≡◌, IfSome};
 ghost use Rattle.std.specs.Option.{option_map};
+ghost use Rattle.clap.specs.Words.{found_of, rows_of};
 ghost use Rattle.lt_isa.specs.Prelude.{ProfileFits};
-ghost use Rattle.command_words.specs.Prelude.{compile_asks, compile_named};
+ghost use Rattle.command_words.specs.Prelude.{compile_asks};
 ghost use Rattle.call_steps.specs.Prelude.{compile_on, compile_work};
 
 use call_replies::replies::{Done, Reply};
 use call_steps::sources::find_source;
 use call_steps::targets::Target;
-use call_steps::verbs::{Maker, NewFile, Request};
+use call_steps::verbs::{Made, Maker, NewFile, Request};
 use clap::ArgMatches;
 use command_words::options::{block_log_given, flag_given, value};
 use command_words::windows::{window_given, windowed};
@@ -16,47 +17,36 @@ use gr_base::Memory;
 use gr_outside::Shelf;
 use std::alloc::Global;
 
-/// The names of the file that is read and of the one that is written, what is compiled for, and whether the file is read
-/// with procedures.
-#[derive(Clone, Copy)]
-pub struct CompileWords<'a> {
-    source: &'a str,
-    output: &'a str,
-    target: Target,
-    procs: bool,
-}
-
 /// The verb `compile SRC OUT [--fast] [--block-log w] [--window P:O:C] [--procs]`: writes the object file of a source
 /// text's program.
 pub struct Compile;
 
+/// The name of the file that is read, whether it is read with procedures, what is compiled for, and the name of the file
+/// that is written.
+#[derive(Clone, Copy)]
+pub struct CompileWords<'a> {
+    source: &'a str,
+    procs: bool,
+    target: Target,
+    output: &'a str,
+}
+
 impl<'a> Request<'a> for Compile {
     type Words = CompileWords<'a>;
 
-    ghost asks = { compile_asks compile_on };
-
     ghost work = { λ words. compile_work words.source.now words.output.now words.target words.procs };
+
+    ghost asks = { compile_asks compile_on };
 
     ghost Fits = { λ words. ProfileFits words.target.profile };
 
     fn words(_alloc: Global, matches: &ArgMatches<'a>) -> Result<Option<CompileWords<'a>>, Memory> {
-        Ok(words_in(
-            value(matches, "SRC"),
-            value(matches, "OUT"),
-            value(matches, "block-log"),
-            value(matches, "window"),
-            value(matches, "fast"),
-            value(matches, "procs"),
-        ))
+        Ok(words_in(matches))
     }
 }
 
 impl<'a> Maker<'a> for Compile {
-    fn make<F: Shelf>(
-        alloc: Global,
-        words: CompileWords<'a>,
-        shelf: &mut F,
-    ) -> Result<NewFile<'a>, Reply<'a>> {
+    fn make<F: Shelf>(alloc: Global, words: CompileWords<'a>, shelf: &mut F) -> Made<'a> {
         let program = find_source(alloc, words.source, words.procs, shelf)?;
         let bytes = object_bytes(alloc, &program, &words.target)?;
         Ok(NewFile {
@@ -67,27 +57,21 @@ impl<'a> Maker<'a> for Compile {
     }
 }
 
-fn words_in<'a>(
-    source: Option<&'a str>,
-    output: Option<&'a str>,
-    block_log: Option<&'a str>,
-    window: Option<&'a str>,
-    fast: Option<&'a str>,
-    procs: Option<&'a str>,
-) -> Option<CompileWords<'a>>
+fn words_in<'a>(matches: &ArgMatches<'a>) -> Option<CompileWords<'a>>
     ensures asked { option_map (λ a. compile_work a.source.now a.output.now a.target a.procs) result
-        ≡ compile_named compile_on (option_map (λ t. t.now) source.entry) (option_map (λ t. t.now) output.entry)
-        (option_map (λ t. t.now) block_log.entry) (option_map (λ t. t.now) window.entry)
-        (option_map (λ t. t.now) fast.entry) (option_map (λ t. t.now) procs.entry) }
+        ≡ compile_asks compile_on (rows_of (found_of matches.now)) }
     ensures within { IfSome result (λ a. ProfileFits a.target.profile) }
 {
     Some(CompileWords {
-        source: source?,
-        output: output?,
+        source: value(matches, "SRC")?,
+        procs: flag_given(value(matches, "procs")),
         target: Target {
-            profile: windowed(block_log_given(block_log)?, window_given(window)?),
-            fast: flag_given(fast),
+            profile: windowed(
+                block_log_given(value(matches, "block-log"))?,
+                window_given(value(matches, "window"))?,
+            ),
+            fast: flag_given(value(matches, "fast")),
         },
-        procs: flag_given(procs),
+        output: value(matches, "OUT")?,
     })
 }

@@ -17,13 +17,12 @@
 //! print, also for want of memory. They are printed in one place.
 #![tactic(auto)]
 
-mod assemble;
 mod check;
 pub mod compile;
-mod disassemble;
+mod conversions;
 pub mod evaluate;
+pub mod evaluation;
 mod histogram;
-mod infer;
 pub mod pure;
 pub mod sample;
 pub mod top;

@@ -1,10 +1,11 @@
 ghost use Rattle.std.specs.Prelude.{◌≡◌, IfErr, IfOk, IfSome, Some, ℕ};
 ghost use Rattle.std.specs.Option.{option_map};
+ghost use Rattle.clap.specs.Words.{found_of, rows_of};
 ghost use Rattle.gr_base.specs.Prelude.{Within};
 ghost use Rattle.lt_isa.specs.Prelude.{IsInRange};
 ghost use Rattle.src_tree.specs.Prelude.{Store, meaning, source_of};
 ghost use Rattle.call_steps.specs.Prelude.{sample_cycles, sample_store, sum_left};
-ghost use Rattle.command_words.specs.Prelude.{sample_asks, sample_named};
+ghost use Rattle.command_words.specs.Prelude.{sample_asks};
 ghost use Rattle.call_laws.specs.Prelude.{sample_work, sample_program};
 ghost use Rattle.ghost_cli.specs.Sampled.{SampleCameTo, SampleIsReady, RanCounted};
 ghost use Rattle.call_replies.specs.Prelude.{no_memory, said};
@@ -17,7 +18,7 @@ use call_steps::count_watch::CountWatch;
 use call_steps::oblivious::{SeededOram, load_seeded};
 use call_steps::reading::checked;
 use call_steps::targets::Target;
-use call_steps::verbs::{Maker, NewFile, Request};
+use call_steps::verbs::{Made, Maker, NewFile, Request};
 use clap::ArgMatches;
 use command_words::options::{flag_given, items_given, seed_given, value};
 use command_words::windows::{ALWAYS_OPEN, windowed};
@@ -31,6 +32,10 @@ use processor::End;
 use source_meaning::{Outcome, eval};
 use std::alloc::Global;
 
+/// The verb `sample N OUT [--fast] [--seed s]`: compiles, checks and runs a program that counts remainders among N
+/// numbers, writes its object file, and prints the number of accesses of the run.
+pub struct Sample;
+
 /// The number of items of a sample, the name of the file that is written, the seed of the run's random words, and whether
 /// arrays that fit stay in the scratchpad.
 #[derive(Clone, Copy)]
@@ -41,35 +46,22 @@ pub struct SampleWords<'a> {
     fast: bool,
 }
 
-/// The verb `sample N OUT [--fast] [--seed s]`: compiles, checks and runs a program that counts remainders among N
-/// numbers, writes its object file, and prints the number of accesses of the run.
-pub struct Sample;
-
 impl<'a> Request<'a> for Sample {
     type Words = SampleWords<'a>;
 
-    ghost asks = { sample_asks sample_work };
-
     ghost work = { λ words. sample_work words.fast words.items words.output.now };
+
+    ghost asks = { sample_asks sample_work };
 
     ghost Fits = { λ words. Within 1 65536 words.items };
 
     fn words(_alloc: Global, matches: &ArgMatches<'a>) -> Result<Option<SampleWords<'a>>, Memory> {
-        Ok(words_in(
-            value(matches, "N"),
-            value(matches, "OUT"),
-            value(matches, "seed"),
-            value(matches, "fast"),
-        ))
+        Ok(words_in(matches))
     }
 }
 
 impl<'a> Maker<'a> for Sample {
-    fn make<F: Shelf>(
-        alloc: Global,
-        words: SampleWords<'a>,
-        shelf: &mut F,
-    ) -> Result<NewFile<'a>, Reply<'a>> {
+    fn make<F: Shelf>(alloc: Global, words: SampleWords<'a>, shelf: &mut F) -> Made<'a> {
         match made(alloc, words.items, words.seed, words.fast)? {
             Some(file) => Ok(NewFile {
                 name: words.output,
@@ -81,22 +73,16 @@ impl<'a> Maker<'a> for Sample {
     }
 }
 
-fn words_in<'a>(
-    items: Option<&'a str>,
-    output: Option<&'a str>,
-    seed: Option<&'a str>,
-    fast: Option<&'a str>,
-) -> Option<SampleWords<'a>>
+fn words_in<'a>(matches: &ArgMatches<'a>) -> Option<SampleWords<'a>>
     ensures asked { option_map (λ a. sample_work a.fast a.items a.output.now) result
-        ≡ sample_named sample_work (option_map (λ t. t.now) items.entry) (option_map (λ t. t.now) output.entry)
-        (option_map (λ t. t.now) seed.entry) (option_map (λ t. t.now) fast.entry) }
+        ≡ sample_asks sample_work (rows_of (found_of matches.now)) }
     ensures within { IfSome result (λ a. Within 1 65536 a.items) }
 {
     Some(SampleWords {
-        items: items_given(items?)?,
-        output: output?,
-        seed: seed_given(seed)?,
-        fast: flag_given(fast),
+        items: items_given(value(matches, "N")?)?,
+        output: value(matches, "OUT")?,
+        seed: seed_given(value(matches, "seed"))?,
+        fast: flag_given(value(matches, "fast")),
     })
 }
 

@@ -5,12 +5,10 @@ ghost use Rattle.call_laws.specs.Prelude.{HasHeadline, Promises, work_of, works}
 ghost use Rattle.call_replies.specs.Prelude.{said};
 ghost use Rattle.clap.specs.Words.{found_of, rows_of};
 
-use crate::assemble::Assemble;
 use crate::check::Check;
 use crate::compile::Compile;
-use crate::disassemble::Disassemble;
+use crate::conversions::{Assemble, Disassemble, Infer};
 use crate::evaluate::Evaluate;
-use crate::infer::Infer;
 use crate::sample::Sample;
 use call_replies::replies::Reply;
 use call_steps::putting::{NOT_PUT, say};

@@ -1,7 +1,8 @@
 ghost use Rattle.std.specs.Prelude.{◌≡◌, ◌<◌, ◌≤◌, ◌+◌, [], IfErr, IfOk, IfSome, IsTrue, OnErr, OnOk, false, length, map};
 ghost use Rattle.std.specs.Option.{option_map};
 ghost use Rattle.bus_arbiter.specs.Prelude.{traces_to, AllFit, traces_on, share_of, AllLeft};
-ghost use Rattle.command_words.specs.Prelude.{bus_asks, bus_named, bus_named_on, pairs_of, texts};
+ghost use Rattle.clap.specs.Words.{found_of, rows_of};
+ghost use Rattle.command_words.specs.Prelude.{bus_asks, bus_named_on, pairs_of, texts};
 ghost use Rattle.machine_verbs.specs.Bus.{bus_said, bus_work, none_read, with_core, with_cores};
 ghost use Rattle.call_steps.specs.Prelude.{Finds, FindsNone, stage};
 ghost use Rattle.machine_verbs.specs.Sharing.{AllBegin, AreRead, PutsShared};
@@ -37,6 +38,10 @@ impl<'a> Model for NamePair<'a> {
     ghost view = { λ p. record { object = p.object.now; input = p.input.now } };
 }
 
+/// The verb `bus OBJ INPUT [OBJ INPUT ..] [--cycles n] [--seed s]`: runs each pair's object on its inputs as a core of
+/// one bus, and prints the lines of all transfers and of how each core ended.
+pub struct SharedBus;
+
 /// The names of the pairs of a bus, its number of cycles, and the seed of its random words.
 #[derive(Drop)]
 pub struct BusWords<'a> {
@@ -45,26 +50,17 @@ pub struct BusWords<'a> {
     seed: u64,
 }
 
-/// The verb `bus OBJ INPUT [OBJ INPUT ..] [--cycles n] [--seed s]`: runs each pair's object on its inputs as a core of
-/// one bus, and prints the lines of all transfers and of how each core ended.
-pub struct SharedBus;
-
 impl<'a> Request<'a> for SharedBus {
     type Words = BusWords<'a>;
 
-    ghost asks = { bus_asks bus_work };
-
     ghost work = { λ words. bus_work words.pairs.items words.cycles };
+
+    ghost asks = { bus_asks bus_work };
 
     ghost Fits = { λ words. (1 ≤ words.cycles) × (length words.pairs.items ≤ 8) };
 
     fn words(alloc: Global, matches: &ArgMatches<'a>) -> Result<Option<BusWords<'a>>, Memory> {
-        words_in(
-            alloc,
-            values(matches, "NAMES"),
-            value(matches, "cycles"),
-            value(matches, "seed"),
-        )
+        words_in(alloc, matches)
     }
 }
 
@@ -80,25 +76,19 @@ impl<'a> Service<'a> for SharedBus {
     }
 }
 
-fn words_in<'a>(
-    alloc: Global,
-    names: Option<&[&'a str]>,
-    cycles: Option<&'a str>,
-    seed: Option<&'a str>,
-) -> Result<Option<BusWords<'a>>, Memory>
+fn words_in<'a>(alloc: Global, matches: &ArgMatches<'a>) -> Result<Option<BusWords<'a>>, Memory>
     ensures works { IfOk result (λ asked. option_map (λ a. bus_work a.pairs.items a.cycles) asked
-        ≡ bus_named bus_work (option_map (λ list. texts list.now) names.entry)
-        (option_map (λ t. t.now) cycles.entry) (option_map (λ t. t.now) seed.entry)) }
+        ≡ bus_asks bus_work (rows_of (found_of matches.now))) }
     ensures some_cycle { IfOk result (λ asked. IfSome asked (λ a. 1 ≤ a.cycles)) }
     ensures most { IfOk result (λ asked. IfSome asked (λ a. length a.pairs.items ≤ 8)) }
 {
-    let Some(names) = names else {
+    let Some(names) = values(matches, "NAMES") else {
         return Ok(None);
     };
     let Some(pairs) = pairs_in(alloc, names)? else {
         return Ok(None);
     };
-    Ok(numbered(pairs, cycles, seed))
+    Ok(numbered(pairs, value(matches, "cycles"), value(matches, "seed")))
 }
 
 fn numbered<'a>(

@@ -3,13 +3,14 @@ ghost use Rattle.std.specs.Option.{option_map};
 ghost use Rattle.lt_isa.specs.Prelude.{outputs, IsInRange, FitsObject, wants_of};
 ghost use Rattle.run_data.specs.Prelude.{output_of};
 ghost use Rattle.machine_verbs.specs.Ran.{RanTo};
-ghost use Rattle.command_words.specs.Prelude.{run_asks, run_named};
+ghost use Rattle.command_words.specs.Prelude.{run_asks};
+ghost use Rattle.clap.specs.Words.{found_of, rows_of};
 ghost use Rattle.machine_verbs.specs.Run.{run_work};
 
 use call_replies::replies::{Done, Reply, Verdict};
 use call_steps::given::find_given;
 use call_steps::oblivious::{Seeded, SeededOram, SeededRecursive, load_seeded};
-use call_steps::verbs::{Maker, NewFile, Request};
+use call_steps::verbs::{Made, Maker, NewFile, Request};
 use clap::ArgMatches;
 use command_words::options::{flag_given, number_given, seed_given, value};
 use gr_base::Memory;
@@ -19,6 +20,9 @@ use lt_checker::Accepted;
 use processor::{Bank, End, Machine, NoWatch};
 use run_data::output_text;
 use std::alloc::Global;
+
+/// The verb `run OBJ INPUT OUT [--cycles n] [--seed s] [--recursive]`: runs an object on inputs, and writes its outputs.
+pub struct Run;
 
 /// The names of the files of a run, its number of cycles, the seed of its random words, and whether its banks are
 /// recursive.
@@ -32,36 +36,22 @@ pub struct RunWords<'a> {
     recursive: bool,
 }
 
-/// The verb `run OBJ INPUT OUT [--cycles n] [--seed s] [--recursive]`: runs an object on inputs, and writes its outputs.
-pub struct Run;
-
 impl<'a> Request<'a> for Run {
     type Words = RunWords<'a>;
 
-    ghost asks = { run_asks run_work };
-
     ghost work = { λ words. run_work words.object.now words.input.now words.output.now words.cycles };
+
+    ghost asks = { run_asks run_work };
 
     ghost Fits = { λ words. 1 ≤ words.cycles };
 
     fn words(_alloc: Global, matches: &ArgMatches<'a>) -> Result<Option<RunWords<'a>>, Memory> {
-        Ok(words_in(
-            value(matches, "OBJ"),
-            value(matches, "INPUT"),
-            value(matches, "OUT"),
-            value(matches, "cycles"),
-            value(matches, "seed"),
-            value(matches, "recursive"),
-        ))
+        Ok(words_in(matches))
     }
 }
 
 impl<'a> Maker<'a> for Run {
-    fn make<F: Shelf>(
-        alloc: Global,
-        words: RunWords<'a>,
-        shelf: &mut F,
-    ) -> Result<NewFile<'a>, Reply<'a>> {
+    fn make<F: Shelf>(alloc: Global, words: RunWords<'a>, shelf: &mut F) -> Made<'a> {
         let given = find_given(alloc, words.object, words.input, shelf)?;
         match run_asked(alloc, &given.accepted, &given.inputs, words)? {
             Ran::Halted(at, bytes) => Ok(NewFile {
@@ -74,27 +64,18 @@ impl<'a> Maker<'a> for Run {
     }
 }
 
-fn words_in<'a>(
-    object: Option<&'a str>,
-    input: Option<&'a str>,
-    output: Option<&'a str>,
-    cycles: Option<&'a str>,
-    seed: Option<&'a str>,
-    recursive: Option<&'a str>,
-) -> Option<RunWords<'a>>
+fn words_in<'a>(matches: &ArgMatches<'a>) -> Option<RunWords<'a>>
     ensures works { option_map (λ a. run_work a.object.now a.input.now a.output.now a.cycles) result
-        ≡ run_named run_work (option_map (λ t. t.now) object.entry) (option_map (λ t. t.now) input.entry)
-        (option_map (λ t. t.now) output.entry)
-        (option_map (λ t. t.now) cycles.entry) (option_map (λ t. t.now) seed.entry) }
+        ≡ run_asks run_work (rows_of (found_of matches.now)) }
     ensures some_cycle { IfSome result (λ a. 1 ≤ a.cycles) }
 {
     Some(RunWords {
-        object: object?,
-        input: input?,
-        output: output?,
-        cycles: number_given(cycles)?,
-        seed: seed_given(seed)?,
-        recursive: flag_given(recursive),
+        object: value(matches, "OBJ")?,
+        input: value(matches, "INPUT")?,
+        output: value(matches, "OUT")?,
+        cycles: number_given(value(matches, "cycles"))?,
+        seed: seed_given(value(matches, "seed"))?,
+        recursive: flag_given(value(matches, "recursive")),
     })
 }
 

@@ -2,8 +2,9 @@ ghost use Rattle.std.specs.Prelude.{◌≡◌, ◌≢◌, ◌≤◌, [], IfOk, I
 ghost use Rattle.std.specs.Option.{option_map};
 ghost use Rattle.banks.specs.Prelude.{accesses_from};
 ghost use Rattle.call_replies.specs.Prelude.{comes_to};
-ghost use Rattle.command_words.specs.Prelude.{trace_asks, trace_named};
+ghost use Rattle.command_words.specs.Prelude.{trace_asks};
 ghost use Rattle.machine_verbs.specs.Trace.{trace_work, traces_on};
+ghost use Rattle.clap.specs.Words.{found_of, rows_of};
 ghost use Rattle.call_steps.specs.Prelude.{ExplainsRest, AreBehind, MayRun, PutsLast, stream_from};
 ghost use Rattle.machine_verbs.specs.Watched.{HoldsLines, PutsShown, PutsTrace, kept};
 ghost use Rattle.machine_verbs.specs.TracedInTrees.{TracedInTrees};
@@ -30,6 +31,10 @@ use lt_checker::Accepted;
 use processor::{Bank, End, Machine};
 use std::alloc::Global;
 
+/// The verb `trace OBJ INPUT [--cycles n] [--seed s] [--paths] [--recursive]`: runs an object on inputs, and prints the
+/// lines of its trace.
+pub struct Trace;
+
 /// The names of the files of a trace, its number of cycles, the seed of its random words, whether paths are printed,
 /// and whether its banks are recursive.
 #[derive(Clone, Copy)]
@@ -42,29 +47,18 @@ pub struct TraceWords<'a> {
     recursive: bool,
 }
 
-/// The verb `trace OBJ INPUT [--cycles n] [--seed s] [--paths] [--recursive]`: runs an object on inputs, and prints the
-/// lines of its trace.
-pub struct Trace;
-
 impl<'a> Request<'a> for Trace {
     type Words = TraceWords<'a>;
-
-    ghost asks = { trace_asks trace_work };
 
     ghost work = { λ words.
         trace_work words.object.now words.input.now words.cycles words.seed words.paths words.recursive };
 
+    ghost asks = { trace_asks trace_work };
+
     ghost Fits = { λ words. 1 ≤ words.cycles };
 
     fn words(_alloc: Global, matches: &ArgMatches<'a>) -> Result<Option<TraceWords<'a>>, Memory> {
-        Ok(words_in(
-            value(matches, "OBJ"),
-            value(matches, "INPUT"),
-            value(matches, "cycles"),
-            value(matches, "seed"),
-            value(matches, "paths"),
-            value(matches, "recursive"),
-        ))
+        Ok(words_in(matches))
     }
 }
 
@@ -80,28 +74,18 @@ impl<'a> Service<'a> for Trace {
     }
 }
 
-fn words_in<'a>(
-    object: Option<&'a str>,
-    input: Option<&'a str>,
-    cycles: Option<&'a str>,
-    seed: Option<&'a str>,
-    paths: Option<&'a str>,
-    recursive: Option<&'a str>,
-) -> Option<TraceWords<'a>>
+fn words_in<'a>(matches: &ArgMatches<'a>) -> Option<TraceWords<'a>>
     ensures works { option_map (λ a. trace_work a.object.now a.input.now a.cycles a.seed a.paths a.recursive) result
-        ≡ trace_named trace_work (option_map (λ t. t.now) object.entry) (option_map (λ t. t.now) input.entry)
-        (option_map (λ t. t.now) cycles.entry)
-        (option_map (λ t. t.now) seed.entry) (option_map (λ t. t.now) paths.entry)
-        (option_map (λ t. t.now) recursive.entry) }
+        ≡ trace_asks trace_work (rows_of (found_of matches.now)) }
     ensures some_cycle { IfSome result (λ a. 1 ≤ a.cycles) }
 {
     Some(TraceWords {
-        object: object?,
-        input: input?,
-        cycles: number_given(cycles)?,
-        seed: seed_given(seed)?,
-        paths: flag_given(paths),
-        recursive: flag_given(recursive),
+        object: value(matches, "OBJ")?,
+        input: value(matches, "INPUT")?,
+        cycles: number_given(value(matches, "cycles"))?,
+        seed: seed_given(value(matches, "seed"))?,
+        paths: flag_given(value(matches, "paths")),
+        recursive: flag_given(value(matches, "recursive")),
     })
 }
 

@@ -2,7 +2,7 @@ use Rattle.std.proofs.Common.{refl, ◌∙◌, subst, None, Some}
 use Rattle.src_tree.specs.Prelude.{source_of}
 use Rattle.flow_types.specs.Prelude.{declared_wants}
 use Rattle.call_replies.specs.declared.replies.Verdict.TheVariants.{Spent}
-use Rattle.ghost_cli.specs.declared.evaluate.Left.TheVariants.{Done}
+use Rattle.ghost_cli.specs.declared.evaluation.Left.TheVariants.{Done}
 use Rattle.call_laws.specs.Prelude.{evaluates_on, on_left}
 use Rattle.ghost_cli.specs.Prelude.{LeavesText}
 use Rattle.call_steps.specs.Prelude.{WhatIsLeft, with_variables}

@@ -1,9 +1,5 @@
-use Rattle.std.proofs.Common.{◌≡◌, ◌≤◌, length, Option, Some, None, Result, Ok, Err, IfOk, IfSome, subst}
-use Rattle.std.specs.Option.{option_map}
-use Rattle.command_words.specs.Prelude.{bus_named}
+use Rattle.std.proofs.Common.{◌≤◌, length, Option, Some, None, Result, Ok, Err, IfOk, IfSome}
 use Rattle.machine_verbs.specs.declared.bus.BusWords.{BusWords}
-use Rattle.machine_verbs.specs.Prelude.{bus_work}
-use Rattle.call_steps.specs.Prelude.{Work}
 use Rattle.machine_verbs.proofs.bus.SharedBusRequest.words.Goals as goal
 
 both : {T E : Type 0} (P Q : T → Type 0) (result : Result (Option T) E) → IfOk result (λ found. IfSome found P)
@@ -11,12 +7,6 @@ both : {T E : Type 0} (P Q : T → Type 0) (result : Result (Option T) E) → If
 both P Q (Ok (Some x)) p q = (p, q)
 both P Q (Ok None) p q = tt
 both P Q (Err e) p q = tt
-
-pub returns-clause-asked : goal.returns-clause-asked
-returns-clause-asked c =
-    subst (λ (asked : Option Work).
-    IfOk c.words_in.result (λ found. option_map (λ (a : BusWords). bus_work a.pairs.items a.cycles) found ≡ asked))
-    (λ k. bus_named bus_work (c.values.ensures k) (c.value.ensures k) (c.value-2.ensures k)) c.words_in.ensures.works
 
 pub returns-clause-within : goal.returns-clause-within
 returns-clause-within c =

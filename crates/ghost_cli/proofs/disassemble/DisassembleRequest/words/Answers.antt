@@ -1,9 +1,0 @@
-use Rattle.std.proofs.Common.{◌∙◌}
-use Rattle.command_words.specs.Prelude.{two_named}
-use Rattle.call_laws.specs.Prelude.{disassemble_work}
-use Rattle.ghost_cli.proofs.disassemble.DisassembleRequest.words.Goals as goal
-
-pub returns-clause-asked : goal.returns-clause-asked
-returns-clause-asked c =
-    c.two_names.ensures disassemble_work
-    ∙ (λ k. two_named disassemble_work (c.value.ensures k) (c.value-2.ensures k))
