@@ -5,7 +5,7 @@ use crate::verb_table::{NOTES, VERBS, VerbHelp};
 use gr_outside::{Sink, SinkFailed};
 
 /// The version of the program.
-pub const VERSION: &str = "1.9.0";
+pub const VERSION: &str = "1.9.1";
 
 /// Prints all verbs, and what holds for all of them.
 pub(crate) fn put_help<O: Sink>(out: &mut O) -> Result<(), SinkFailed> {
