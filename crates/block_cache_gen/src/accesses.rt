@@ -2,11 +2,11 @@ ghost use Rattle.std.specs.Prelude.{◌≡◌, ℕ, ◌+◌, ◌*◌, ◌/◌, �
 ghost use Rattle.std.specs.List.{list_any, range_with_len};
 ghost use Rattle.gr_word.specs.Prelude.{unsigned_of};
 ghost use Rattle.src_tree.specs.Prelude.{secret_label, expr_tree};
-ghost use Rattle.block_cache_gen.specs.Codes.{access_by, copy_code, compares, is_within_home, numbering, placed_code, has_offset, numbered_register, offset_code, shift_code, fixed_code, fixed_index, fixed_word, index_operand, is_cached, is_masked, is_power, may_skip_loads, literal, load_code, operand_register, scalar_code, skips};
+ghost use Rattle.block_cache_gen.specs.Codes.{access_by, placed_word, copy_code, compares, is_within_home, numbering, placed_code, has_offset, numbered_register, offset_code, shift_code, fixed_code, fixed_index, fixed_word, index_operand, is_cached, is_masked, is_power, may_skip_loads, literal, load_code, operand_register, scalar_code, skips};
 ghost use Rattle.block_cache_gen.specs.declared.indexes.Numbering.TheVariants.{Reduced};
 ghost use Rattle.block_cache_gen.specs.Indexed.{code_of_index, notes_of_index};
 ghost use Rattle.block_cache_gen.specs.Notes.{access_mask, loaded_notes, marked_by, unmarked};
-ghost use Rattle.block_cache_gen.specs.Emitted.{Appended, CodeGrows, EmitsFound, no_notes, notes_in};
+ghost use Rattle.block_cache_gen.specs.Emitted.{Appended, CodeGrows, EmitsFixed, EmitsFound, EmitsLoad, no_notes, notes_in};
 ghost use Rattle.block_cache_gen.specs.TreeWords.{HasWords};
 ghost use Rattle.block_cache_gen.specs.Variables.{home_in};
 
