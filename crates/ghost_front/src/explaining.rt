@@ -19,18 +19,19 @@ const NOT_WRITTEN: u8 = 4;
 /// What an explanation calls the file `-`.
 const STREAM_NAME: &str = "standard input";
 
-/// How the end of a call is explained: in words or as a line of JSON, with the call's status.
+/// How the end of a call is explained: in words or as a line of JSON, with the words of the call and how it ended.
 #[derive(Clone, Copy)]
-struct Telling {
+struct Telling<'a> {
     is_json: bool,
-    status: u8,
+    words: &'a [&'a str],
+    ended: Ended<'a>,
 }
 
-impl Telling {
+impl Telling<'_> {
     // The text of some words.
     fn text(self, alloc: Global, words: &Words) -> Result<Vec<u8>, Memory> {
         if self.is_json {
-            words.report(alloc, self.status)
+            words.report(alloc, self.ended.status)
         } else {
             words.finish(alloc)
         }
@@ -76,9 +77,12 @@ pub(crate) fn explain<F: Shelf + Reasons + Drop, O: Sink + Reasons, E: Sink>(
         Manner::Words => false,
         Manner::Json => true,
     };
-    let status = ended.status;
-    let telling = Telling { is_json, status };
-    if let Ok(text) = explanation(alloc, telling, words, ended, shelf, out)
+    let telling = Telling {
+        is_json,
+        words,
+        ended,
+    };
+    if let Ok(text) = explanation(alloc, telling, shelf, out)
         && !text.is_empty()
     {
         put_text(text.as_slice(), errors);
@@ -93,27 +97,25 @@ fn put_text<E: Sink>(text: &[u8], errors: &mut E) {
 
 fn explanation<F: Shelf + Reasons + Drop, O: Sink + Reasons>(
     alloc: Global,
-    telling: Telling,
-    words: &[&str],
-    ended: Ended<'_>,
+    telling: Telling<'_>,
     shelf: &StreamShelf<F>,
     out: &O,
 ) -> Result<Vec<u8>, Memory> {
-    if let Some(stop) = ended.stop {
+    if let Some(stop) = telling.ended.stop {
         return explain_stop(alloc, telling, stop);
     }
-    match ended.status {
+    match telling.ended.status {
         NOT_READ => read_reason(alloc, telling, shelf),
         NOT_WRITTEN => match out.reason(alloc) {
             Some(reason) => telling.sentence(alloc, "standard output: ", reason.as_str(), ""),
             None => files_reason(alloc, telling, shelf.files()),
         },
-        _ => fault_text(alloc, telling, words, shelf.read_files()),
+        _ => fault_text(alloc, telling, shelf.read_files()),
     }
 }
 
 // Why the front ended the call itself.
-fn explain_stop(alloc: Global, telling: Telling, stop: Stop<'_>) -> Result<Vec<u8>, Memory> {
+fn explain_stop(alloc: Global, telling: Telling<'_>, stop: Stop<'_>) -> Result<Vec<u8>, Memory> {
     let (before, name, after) = match stop {
         Stop::NoMemory => return telling.nothing(alloc),
         Stop::ReadsTwice => ("standard input can be read as only one file", "", ""),
@@ -136,7 +138,7 @@ fn explain_stop(alloc: Global, telling: Telling, stop: Stop<'_>) -> Result<Vec<u
 // Why a file couldn't be read.
 fn read_reason<F: Shelf + Reasons + Drop>(
     alloc: Global,
-    telling: Telling,
+    telling: Telling<'_>,
     shelf: &StreamShelf<F>,
 ) -> Result<Vec<u8>, Memory> {
     match shelf.input_error() {
@@ -149,7 +151,11 @@ fn read_reason<F: Shelf + Reasons + Drop>(
 }
 
 // The system's reason for the last call on files that failed, and nothing if it isn't known.
-fn files_reason<F: Reasons>(alloc: Global, telling: Telling, files: &F) -> Result<Vec<u8>, Memory> {
+fn files_reason<F: Reasons>(
+    alloc: Global,
+    telling: Telling<'_>,
+    files: &F,
+) -> Result<Vec<u8>, Memory> {
     match files.reason(alloc) {
         Some(reason) => telling.sentence(alloc, "", reason.as_str(), ""),
         None => telling.nothing(alloc),
@@ -157,14 +163,10 @@ fn files_reason<F: Reasons>(alloc: Global, telling: Telling, files: &F) -> Resul
 }
 
 // What the fault of a call means, by the files that it read, or its warnings.
-fn fault_text(
-    alloc: Global,
-    telling: Telling,
-    words: &[&str],
-    read: &[ReadFile],
-) -> Result<Vec<u8>, Memory> {
+fn fault_text(alloc: Global, telling: Telling<'_>, read: &[ReadFile]) -> Result<Vec<u8>, Memory> {
+    let Telling { words, ended, .. } = telling;
     let named = names_of(alloc, words)?;
-    let call = Call::new(alloc, telling.status, usage_of(words), &named)?;
+    let call = Call::new(alloc, ended.status, usage_of(words), &named)?;
     let mut files = Vec::new(alloc);
     for (place, name) in call.placed().iter().enumerate() {
         if let Some(kind) = call.kind_at(place) {

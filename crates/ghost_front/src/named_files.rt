@@ -1,12 +1,13 @@
 //! Which words of a call name files: those that are read, and the one that is written.
 
 use crate::streams::DASH;
-use crate::tools::Tool;
+use crate::tools::ToolName;
 use clap::ArgMatches;
 use command_words::verbs::{matches_of, verb_named};
 use explain_words::Kind;
+use ghost_tools::{Count, Diff, Expand, Layout, Listing, Profile, Test, Tool};
 use gr_base::Memory;
-use object_tools::words::{self, COUNT, DIFF, EXPAND, LAYOUT, LISTING, PROFILE, TEST};
+use object_tools::words;
 use std::alloc::Global;
 
 /// The names under which the verbs' rows have files to read, with the kind of each file.
@@ -61,7 +62,7 @@ impl<'a> NamedFiles<'a> {
     /// The files that the words of a tool name, the tool first. No files if the words are a usage error.
     pub(crate) fn of_tool(
         alloc: Global,
-        tool: Tool,
+        tool: ToolName,
         words: &'a [&'a str],
     ) -> Result<NamedFiles<'a>, Memory> {
         let mut files = NamedFiles {
@@ -69,13 +70,13 @@ impl<'a> NamedFiles<'a> {
             output: None,
         };
         let row = match tool {
-            Tool::Diff => DIFF,
-            Tool::Count => COUNT,
-            Tool::Expand => EXPAND,
-            Tool::Layout => LAYOUT,
-            Tool::Listing => LISTING,
-            Tool::Profile => PROFILE,
-            Tool::Test => TEST,
+            ToolName::Diff => Diff::ROW,
+            ToolName::Count => Count::ROW,
+            ToolName::Expand => Expand::ROW,
+            ToolName::Layout => Layout::ROW,
+            ToolName::Listing => Listing::ROW,
+            ToolName::Profile => Profile::ROW,
+            ToolName::Test => Test::ROW,
         };
         if let Some(matches) = words::matches_of(alloc, row, words)? {
             files.add(&matches)?;

@@ -10,14 +10,14 @@ ghost use Rattle.ghost_front.specs.Streams.{told};
 use crate::named_files::NamedFiles;
 use crate::serving::{Ended, Stop, refused, starved, take_input};
 use crate::streams::StreamShelf;
-use ghost_tools::{count, diff, expand, layout, listing, profile, test};
+use ghost_tools::{Count, Diff, Expand, Layout, Listing, Profile, Test, print_report};
 use gr_outside::{Shelf, Sink};
 use std::alloc::Global;
 use std::io::Read;
 
 /// A verb that the front does itself.
 #[derive(Clone, Copy)]
-pub(crate) enum Tool {
+pub(crate) enum ToolName {
     /// Compares the events of two runs.
     Diff,
     /// Counts the events of a run.
@@ -35,7 +35,7 @@ pub(crate) enum Tool {
 }
 
 /// The tool that the first word names, if it names one.
-pub(crate) fn tool_in(words: &[&str]) -> Option<Tool>
+pub(crate) fn tool_in(words: &[&str]) -> Option<ToolName>
     ensures { is_some result ≡ asks_tool (texts words.now) }
 {
     if words.len() == 0 {
@@ -44,38 +44,26 @@ pub(crate) fn tool_in(words: &[&str]) -> Option<Tool>
     tool_named(words[0])
 }
 
-fn tool_named(word: &str) -> Option<Tool>
+fn tool_named(word: &str) -> Option<ToolName>
     ensures { is_some result ≡ is_tool word.now }
 {
-    if word == "diff" {
-        return Some(Tool::Diff);
+    match word {
+        "diff" => Some(ToolName::Diff),
+        "count" => Some(ToolName::Count),
+        "layout" => Some(ToolName::Layout),
+        "listing" => Some(ToolName::Listing),
+        "profile" => Some(ToolName::Profile),
+        "test" => Some(ToolName::Test),
+        "expand" => Some(ToolName::Expand),
+        _ => None,
     }
-    if word == "count" {
-        return Some(Tool::Count);
-    }
-    if word == "layout" {
-        return Some(Tool::Layout);
-    }
-    if word == "listing" {
-        return Some(Tool::Listing);
-    }
-    if word == "profile" {
-        return Some(Tool::Profile);
-    }
-    if word == "test" {
-        return Some(Tool::Test);
-    }
-    if word == "expand" {
-        return Some(Tool::Expand);
-    }
-    None
 }
 
 /// Does the work of a tool. Standard input is read at most once, and only if `-` is the name of a file to read.
 #[tactic(auto, using(crate::proofs::CallEnds::same_files_keep, crate::proofs::CallEnds::input_keeps))]
 pub(crate) fn serve_tool<'a, F: Shelf + Drop, I: Read, O: Sink>(
     alloc: Global,
-    tool: Tool,
+    tool: ToolName,
     words: &'a [&'a str],
     shelf: &mut StreamShelf<F>,
     input: &mut I,
@@ -100,7 +88,7 @@ pub(crate) fn serve_tool<'a, F: Shelf + Drop, I: Read, O: Sink>(
 
 fn run_tool<F: Shelf + Drop, O: Sink>(
     alloc: Global,
-    tool: Tool,
+    tool: ToolName,
     words: &[&str],
     shelf: &mut StreamShelf<F>,
     out: &mut O,
@@ -108,12 +96,12 @@ fn run_tool<F: Shelf + Drop, O: Sink>(
     ensures { told shelf.new ≡ told shelf.old }
 {
     match tool {
-        Tool::Diff => diff(alloc, words, shelf, out),
-        Tool::Count => count(alloc, words, shelf, out),
-        Tool::Layout => layout(alloc, words, shelf, out),
-        Tool::Listing => listing(alloc, words, shelf, out),
-        Tool::Profile => profile(alloc, words, shelf, out),
-        Tool::Expand => expand(alloc, words, shelf, out),
-        Tool::Test => test(alloc, words, shelf, out),
+        ToolName::Diff => print_report::<Diff, StreamShelf<F>, O>(alloc, words, shelf, out),
+        ToolName::Count => print_report::<Count, StreamShelf<F>, O>(alloc, words, shelf, out),
+        ToolName::Layout => print_report::<Layout, StreamShelf<F>, O>(alloc, words, shelf, out),
+        ToolName::Listing => print_report::<Listing, StreamShelf<F>, O>(alloc, words, shelf, out),
+        ToolName::Profile => print_report::<Profile, StreamShelf<F>, O>(alloc, words, shelf, out),
+        ToolName::Expand => print_report::<Expand, StreamShelf<F>, O>(alloc, words, shelf, out),
+        ToolName::Test => print_report::<Test, StreamShelf<F>, O>(alloc, words, shelf, out),
     }
 }

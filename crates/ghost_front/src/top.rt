@@ -45,27 +45,8 @@ pub fn front<F: Shelf + Reasons + Identities + Drop, I: Read, O: Sink + Reasons,
 {
     let asked = asked_words(words);
     let manner = manner_in(program.explains, words);
-    serve_words(alloc, program, manner, asked, shelf, input, out, errors)
-}
-
-/// Does what the words ask for, and explains how it ended.
-fn serve_words<F: Shelf + Reasons + Identities + Drop, I: Read, O: Sink + Reasons, E: Sink>(
-    alloc: Global,
-    program: Program<'_>,
-    manner: Manner,
-    words: &[&str],
-    shelf: &mut StreamShelf<F>,
-    input: &mut I,
-    out: &mut O,
-    errors: &mut E,
-) -> u8
-    ensures served { asks_front (texts words.now) ≡ false → asks_tool (texts words.now) ≡ false
-        → Serves (work_of (texts words.now)) (around shelf.old (O.seen out.old) (E.seen errors.old))
-        (around shelf.new (O.seen out.new) (E.seen errors.new)) result }
-    ensures others { KeepsOthers (work_of (texts words.now)) shelf.old.files shelf.new.files }
-{
-    let ended = end_call(alloc, program, words, shelf, input, out, errors);
-    explain(alloc, manner, words, ended, shelf, out, errors);
+    let ended = end_call(alloc, program, asked, shelf, input, out, errors);
+    explain(alloc, manner, asked, ended, shelf, out, errors);
     ended.status
 }
 
@@ -84,26 +65,9 @@ fn end_call<'a, F: Shelf + Identities + Drop, I: Read, O: Sink, E: Sink>(
         (around shelf.new (O.seen out.new) (E.seen errors.new)) result.status }
     ensures others { KeepsOthers (work_of (texts words.now)) shelf.old.files shelf.new.files }
 {
-    match request_in(words) {
-        Some(request) => answer(alloc, program, request, shelf, out),
-        None => serve_other(alloc, words, shelf, input, out, errors),
+    if let Some(request) = request_in(words) {
+        return answer(alloc, program, request, shelf, out);
     }
-}
-
-/// Does the verb that the words name, one of the front's own or one of `ghost_cli`.
-fn serve_other<'a, F: Shelf + Identities + Drop, I: Read, O: Sink, E: Sink>(
-    alloc: Global,
-    words: &'a [&'a str],
-    shelf: &mut StreamShelf<F>,
-    input: &mut I,
-    out: &mut O,
-    errors: &mut E,
-) -> Ended<'a>
-    ensures served { asks_tool (texts words.now) ≡ false
-        → Serves (work_of (texts words.now)) (around shelf.old (O.seen out.old) (E.seen errors.old))
-        (around shelf.new (O.seen out.new) (E.seen errors.new)) result.status }
-    ensures others { KeepsOthers (work_of (texts words.now)) shelf.old.files shelf.new.files }
-{
     match tool_in(words) {
         Some(tool) => serve_tool(alloc, tool, words, shelf, input, out),
         None => serve(alloc, words, shelf, input, out, errors),

@@ -4,7 +4,7 @@ ghost use Rattle.std.specs.Str.{IsUtf8};
 use crate::answers::{Answer, put};
 use crate::calls::{NO_MEMORY, USAGE};
 use crate::given::{shelf_of, words_of};
-use ghost_tools::{layout, listing, profile};
+use ghost_tools::{Layout, Listing, Profile, print_report};
 use gr_base::Memory;
 use gr_outside::{MemShelf, MemSink};
 use std::alloc::Global;
@@ -67,9 +67,9 @@ fn tool_status(alloc: Global, words: &[&str], shelf: &mut MemShelf, sink: &mut M
         return USAGE as u8;
     };
     match *word {
-        "layout" => layout(alloc, words, shelf, sink),
-        "listing" => listing(alloc, words, shelf, sink),
-        "profile" => profile(alloc, words, shelf, sink),
+        "layout" => print_report::<Layout, MemShelf, MemSink>(alloc, words, shelf, sink),
+        "listing" => print_report::<Listing, MemShelf, MemSink>(alloc, words, shelf, sink),
+        "profile" => print_report::<Profile, MemShelf, MemSink>(alloc, words, shelf, sink),
         _ => USAGE as u8,
     }
 }

@@ -1,17 +1,18 @@
-ghost use Rattle.std.specs.Prelude.{◌≡◌, ◌≢◌, ◌≤◌, IfOk, IfSome};
+ghost use Rattle.std.specs.Prelude.{◌≡◌, ◌≤◌, IfOk, IfSome};
 ghost use Rattle.lt_isa.specs.Prelude.{ProfileFits};
 ghost use Rattle.object_tools.specs.Prelude.{status_of};
 
 use call_replies::replies::{InputFault, Reply, Verdict};
 use clap::ArgMatches;
 use command_words::options::{number_given, value};
+use command_words::verbs::VerbWords;
 use compile_step::object_of;
 use gr_base::Memory;
-use gr_outside::{Shelf, Sink};
-use object_tools::reports::{Report, print};
+use gr_outside::Shelf;
+use object_tools::reports::{Outcome, Report, Tool};
 use object_tools::sources::{SourceWords, accepted_of, read_file, read_source, source_in_words};
 use object_tools::suites::{Subject, Tried, try_cases};
-use object_tools::words::{TEST, matches_of};
+use object_tools::words::OF_SOURCE;
 use std::alloc::Global;
 
 /// The most bytes of a file of cases.
@@ -33,63 +34,44 @@ pub struct TestWords<'a> {
 ///
 /// Statuses: 0 all cases pass; 1 a case fails; 2, 3, 5, 8 and 11 as of `compile`, with the same lines; 9 the file of
 /// cases isn't UTF-8; 4 the text couldn't be printed.
-pub fn test<S: Shelf, O: Sink>(alloc: Global, words: &[&str], shelf: &mut S, out: &mut O) -> u8
-    ensures files { (S.seen shelf.new).files ≡ (S.seen shelf.old).files }
-    ensures calm { result ≢ 4 → (O.seen out.new).faults ≡ (O.seen out.old).faults }
-{
-    print(alloc, tested(alloc, words, shelf), out)
-}
+pub struct Test;
 
-fn tested<'a, S: Shelf>(
-    alloc: Global,
-    words: &'a [&'a str],
-    shelf: &mut S,
-) -> Result<Report, Reply<'a>>
-    ensures { (S.seen shelf.new).files ≡ (S.seen shelf.old).files }
-{
-    let Some(matches) = matches_of(alloc, TEST, words)? else {
-        return Err(Reply::Usage);
-    };
-    let Some(asked) = words_in(&matches) else {
-        return Err(Reply::Usage);
-    };
-    test_files(alloc, asked, shelf)
-}
+impl<'a> Tool<'a> for Test {
+    type Words = TestWords<'a>;
 
-fn words_in<'a>(matches: &ArgMatches<'a>) -> Option<TestWords<'a>>
-    ensures profile { IfSome result (λ asked. ProfileFits asked.source.target.profile) }
-    ensures some_cycle { IfSome result (λ asked. 1 ≤ asked.cycles) }
-{
-    Some(TestWords {
-        source: source_in_words(matches)?,
-        cases: value(matches, "CASES")?,
-        cycles: number_given(value(matches, "cycles"))?,
-    })
-}
+    ghost Fits = { λ words. ProfileFits words.source.target.profile × 1 ≤ words.cycles };
 
-fn test_files<'a, S: Shelf>(
-    alloc: Global,
-    asked: TestWords<'a>,
-    shelf: &mut S,
-) -> Result<Report, Reply<'a>>
-    requires profile { ProfileFits asked.source.target.profile }
-    requires some_cycle { 1 ≤ asked.cycles }
-    ensures { (S.seen shelf.new).files ≡ (S.seen shelf.old).files }
-{
-    let source = read_source(alloc, asked.source, shelf)?;
-    let object = object_of(alloc, &source.program, &asked.source.target)?;
-    let accepted = accepted_of(alloc, object)?;
-    let bytes = read_file(asked.cases, CASES_BYTES, shelf)?;
-    let Ok(text) = str::from_utf8(&bytes) else {
-        return Err(Reply::Comes(Verdict::BadInput(InputFault::Json)));
+    const ROW: VerbWords<'static> = VerbWords {
+        name: "test",
+        places: &["SRC", "CASES"],
+        options: &["block-log", "window", "cycles"],
+        ..OF_SOURCE
     };
-    let subject = Subject {
-        program: &source.program,
-        accepted: &accepted,
-        cycles: asked.cycles,
-    };
-    let tried = try_cases(alloc, subject, text)?;
-    Ok(report(alloc, tried)?)
+
+    fn words(matches: &ArgMatches<'a>) -> Option<TestWords<'a>> {
+        Some(TestWords {
+            source: source_in_words(matches)?,
+            cases: value(matches, "CASES")?,
+            cycles: number_given(value(matches, "cycles"))?,
+        })
+    }
+
+    fn serve<S: Shelf>(alloc: Global, words: TestWords<'a>, shelf: &mut S) -> Outcome<'a> {
+        let source = read_source(alloc, words.source, shelf)?;
+        let object = object_of(alloc, &source.program, &words.source.target)?;
+        let accepted = accepted_of(alloc, object)?;
+        let bytes = read_file(words.cases, CASES_BYTES, shelf)?;
+        let Ok(text) = str::from_utf8(&bytes) else {
+            return Err(Reply::Comes(Verdict::BadInput(InputFault::Json)));
+        };
+        let subject = Subject {
+            program: &source.program,
+            accepted: &accepted,
+            cycles: words.cycles,
+        };
+        let tried = try_cases(alloc, subject, text)?;
+        Ok(report(alloc, tried)?)
+    }
 }
 
 // The lines of the cases that failed, and how many passed and failed.

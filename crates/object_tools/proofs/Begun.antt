@@ -1,11 +1,10 @@
 -- What is proved of the trace of a machine that has just begun is proved of the object's run on the inputs.
 use Rattle.std.proofs.Common.{◌≡◌, ℕ, ℤ, List, Result, IfOk, refl, ap, ◌∙◌, subst}
 use Rattle.lt_isa.specs.Prelude.{State, Parts, start_state, trace, trace_from}
-use Rattle.object_tools.specs.Prelude.{Compares, CountsEvents}
+use Rattle.object_tools.specs.Prelude.{Compares}
 use Rattle.object_tools.specs.declared.comparing.Comparison.{Comparison}
-use Rattle.object_tools.specs.declared.counting.Tally.{Tally}
 
-trace-begun : (o : Parts) (inputs : List (List ℤ)) (n : ℕ) (p : Parts) (s : State) → p ≡ o → s ≡ start_state o inputs
+pub trace-begun : (o : Parts) (inputs : List (List ℤ)) (n : ℕ) (p : Parts) (s : State) → p ≡ o → s ≡ start_state o inputs
     → trace_from p s n ≡ trace o inputs n
 trace-begun o inputs n p s same start = ap (λ q. trace_from q s n) same ∙ ap (λ t. trace_from o t n) start
 
@@ -17,13 +16,6 @@ compares-begun o first second n p q s t one start other begin result is =
     subst (λ l. IfOk result (λ comparison. Compares l (trace o second n) comparison)) (trace-begun o first n p s one start)
     (subst (λ l. IfOk result (λ comparison. Compares (trace_from p s n) l comparison))
     (trace-begun o second n q t other begin) is)
-
-pub counts-begun : {E : Type 0} (o : Parts) (inputs : List (List ℤ)) (n : ℕ) (p : Parts) (s : State) → p ≡ o
-    → s ≡ start_state o inputs → (result : Result Tally E)
-    → IfOk result (λ tally. CountsEvents tally (trace_from p s n))
-    → IfOk result (λ tally. CountsEvents tally (trace o inputs n))
-counts-begun o inputs n p s same start result is =
-    subst (λ l. IfOk result (λ tally. CountsEvents tally l)) (trace-begun o inputs n p s same start) is
 
 -- a run begins at the first place and cycle
 pub first-place : (o : Parts) (inputs : List (List ℤ)) → (start_state o inputs).place ≡ 0

@@ -2,6 +2,7 @@
 use Rattle.std.proofs.Common.{List, ap}
 use Rattle.std.specs.List.{slice_get}
 use Rattle.lt_isa.specs.Prelude.{Stamped}
+use Rattle.processor.specs.Prelude.{EndsAs}
 use Rattle.processor.specs.declared.ends.End.{End}
 use Rattle.object_tools.specs.Prelude.{Compares, Ends, SaysHalted, SaysOfBoth, SaysOfOne, SaysOther, SaysSpent, RunHalted, RunSpent, comparison_status, end_status}
 use Rattle.object_tools.specs.declared.comparing.Comparison.{Comparison}
@@ -18,3 +19,8 @@ says-of-both first second (Differ events one other) differ =
 pub says-of-one : (events : List Stamped) (end : End) → Ends events end → SaysOfOne events (end_status end)
 says-of-one events (end.Halted at) ends = RunHalted (at, ends)
 says-of-one events end.Spent ends = RunSpent ends
+
+-- the same of how a machine says that its run ended
+pub says-as : (events : List Stamped) (end : End) → EndsAs events end → SaysOfOne events (end_status end)
+says-as events (end.Halted at) ends = RunHalted (at, ends.0)
+says-as events end.Spent ends = RunSpent ends

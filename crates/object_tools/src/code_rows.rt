@@ -1,6 +1,7 @@
 //! In which row of a table each instruction of a compiled program is: a row for each line of the source, and one for the
 //! start and the end.
 
+ghost use Rattle.std.specs.Prelude.{◌≡◌, length};
 ghost use Rattle.lt_isa.specs.Prelude.{ProfileFits};
 
 use crate::procedure_lines::lines_without_calls;
@@ -21,16 +22,16 @@ pub(crate) const START_AND_END: u32 = 0;
 
 /// In which row each instruction of a program is.
 #[derive(Drop)]
-pub struct CodeRows {
+pub(crate) struct CodeRows {
     pub(crate) source: SourceText,
     /// The row of each instruction, and whether it is padding.
-    pub parts: Vec<Part>,
+    pub(crate) parts: Vec<Part>,
     // whether an instruction belongs to a row
     used: Vec<bool>,
 }
 
 /// The rows of a program's code. `None` if the code isn't of the form that the compiler gives it.
-pub fn rows_of_code(
+pub(crate) fn rows_of_code(
     alloc: Global,
     source: ReadSource,
     code: &[Instr],
@@ -142,7 +143,9 @@ fn used_rows(alloc: Global, parts: &[Part], count: usize) -> Result<Vec<bool>, M
 
 impl CodeRows {
     /// How many rows there are.
-    pub fn count(&self) -> usize {
+    pub(crate) fn count(&self) -> usize
+        ensures { result ≡ length self.now.used.items }
+    {
         self.used.len()
     }
 

@@ -1,20 +1,21 @@
-ghost use Rattle.std.specs.Prelude.{◌≡◌, ◌≢◌, IfOk, IfSome};
+ghost use Rattle.std.specs.Prelude.{◌≡◌, ◌≤◌, IfOk, IfSome};
 ghost use Rattle.lt_isa.specs.Prelude.{IsInRange, FitsObject, trace};
 ghost use Rattle.object_tools.specs.Statuses.{SaysOfBoth, comparison_status};
 
 use crate::comparing::Comparison;
 use crate::differences::{push_comparison, push_disagreements};
-use crate::reports::{Report, end_status, print};
+use crate::reports::{Outcome, Report, Tool, end_status};
 use crate::runs::{RunWords, compare_runs, run_in};
-use crate::words::{DIFF, matches_of};
-use call_replies::replies::Reply;
+use crate::words::OF_RUN;
+use call_steps::given::Given;
+use call_steps::oblivious::{Seeded, SeededOram, SeededRecursive};
 use call_steps::reading::{find_accepted, find_inputs};
 use clap::ArgMatches;
 use command_words::options::value;
+use command_words::verbs::VerbWords;
 use gr_base::Memory;
-use gr_outside::{Shelf, Sink};
+use gr_outside::Shelf;
 use gr_word::Inputs;
-use lt_checker::Accepted;
 use std::alloc::Global;
 
 /// The names of the files of a comparison, and how each run is made.
@@ -33,71 +34,64 @@ pub struct DiffWords<'a> {
 ///
 /// Statuses: 0 both runs halted, and all events are equal; 1 an event differs; 10 the events below the last cycle are
 /// equal, and no run halted; 2, 3, 5, 6, 7, 9 and 11 as of `trace`, with the same lines; 4 the text couldn't be printed.
-pub fn diff<S: Shelf, O: Sink>(alloc: Global, words: &[&str], shelf: &mut S, out: &mut O) -> u8
-    ensures files { (S.seen shelf.new).files ≡ (S.seen shelf.old).files }
-    ensures calm { result ≢ 4 → (O.seen out.new).faults ≡ (O.seen out.old).faults }
-{
-    print(alloc, compared(alloc, words, shelf), out)
-}
+pub struct Diff;
 
-fn compared<'a, S: Shelf>(
-    alloc: Global,
-    words: &'a [&'a str],
-    shelf: &mut S,
-) -> Result<Report, Reply<'a>>
-    ensures { (S.seen shelf.new).files ≡ (S.seen shelf.old).files }
-{
-    let Some(matches) = matches_of(alloc, DIFF, words)? else {
-        return Err(Reply::Usage);
+impl<'a> Tool<'a> for Diff {
+    type Words = DiffWords<'a>;
+
+    ghost Fits = { λ words. 1 ≤ words.run.cycles };
+
+    const ROW: VerbWords<'static> = VerbWords {
+        name: "diff",
+        places: &["OBJ", "FIRST", "SECOND"],
+        ..OF_RUN
     };
-    let Some(asked) = words_in(&matches) else {
-        return Err(Reply::Usage);
-    };
-    compare_files(alloc, asked, shelf)
+
+    fn words(matches: &ArgMatches<'a>) -> Option<DiffWords<'a>> {
+        Some(DiffWords {
+            object: value(matches, "OBJ")?,
+            first: value(matches, "FIRST")?,
+            second: value(matches, "SECOND")?,
+            run: run_in(matches)?,
+        })
+    }
+
+    fn serve<S: Shelf>(alloc: Global, words: DiffWords<'a>, shelf: &mut S) -> Outcome<'a> {
+        let accepted = find_accepted(alloc, words.object, shelf)?;
+        let first = find_inputs(alloc, &accepted, words.first, shelf)?;
+        let second = find_inputs(alloc, &accepted, words.second, shelf)?;
+        let given = Given {
+            accepted,
+            inputs: first,
+        };
+        if words.run.recursive {
+            return Ok(report::<SeededRecursive>(alloc, &given, &second, words.run)?);
+        }
+        Ok(report::<SeededOram>(alloc, &given, &second, words.run)?)
+    }
 }
 
-fn words_in<'a>(matches: &ArgMatches<'a>) -> Option<DiffWords<'a>> {
-    Some(DiffWords {
-        object: value(matches, "OBJ")?,
-        first: value(matches, "FIRST")?,
-        second: value(matches, "SECOND")?,
-        run: run_in(matches)?,
-    })
-}
-
-fn compare_files<'a, S: Shelf>(
+// Compares the runs of an accepted object on two inputs, over oblivious banks of a kind. What the status says of their
+// traces is proved.
+fn report<B: Seeded + Drop>(
     alloc: Global,
-    asked: DiffWords<'a>,
-    shelf: &mut S,
-) -> Result<Report, Reply<'a>>
-    ensures { (S.seen shelf.new).files ≡ (S.seen shelf.old).files }
-{
-    let accepted = find_accepted(alloc, asked.object, shelf)?;
-    let first = find_inputs(alloc, &accepted, asked.first, shelf)?;
-    let second = find_inputs(alloc, &accepted, asked.second, shelf)?;
-    Ok(report(alloc, &accepted, &first, &second, asked.run)?)
-}
-
-// Compares the runs of an accepted object on two inputs. What the status says of their traces is proved.
-fn report(
-    alloc: Global,
-    accepted: &Accepted,
-    first: &Inputs,
+    first: &Given,
     second: &Inputs,
     asked: RunWords,
 ) -> Result<Report, Memory>
-    requires in_range { IsInRange accepted.now }
-    requires first { FitsObject accepted.now first.now }
-    requires second { FitsObject accepted.now second.now }
+    requires in_range { IsInRange first.now.accepted }
+    requires first { FitsObject first.now.accepted first.now.inputs }
+    requires second { FitsObject first.now.accepted second.now }
     ensures { IfOk result (λ report. SaysOfBoth
-        (trace accepted.now first.now asked.cycles)
-        (trace accepted.now second.now asked.cycles)
+        (trace first.now.accepted first.now.inputs asked.cycles)
+        (trace first.now.accepted second.now asked.cycles)
         report.status) }
 {
-    let comparison = compare_runs(alloc, accepted, first, second, asked)?;
+    let Given { accepted, inputs } = first;
+    let comparison = compare_runs::<B>(alloc, accepted, inputs, second, asked)?;
     let object = accepted.object();
     let mut text = String::new(alloc);
-    push_disagreements(alloc, &mut text, object, first, second)?;
+    push_disagreements(alloc, &mut text, object, inputs, second)?;
     push_comparison(alloc, &mut text, object, &comparison, asked.cycles)?;
     Ok(Report {
         status: status_of(&comparison),

@@ -1,11 +1,13 @@
-ghost use Rattle.std.specs.Prelude.{◌≡◌, ◌≢◌};
+ghost use Rattle.std.specs.Prelude.{◌≡◌, IfSome};
+ghost use Rattle.lt_isa.specs.Prelude.{ProfileFits};
 
-use crate::reports::{Report, print};
-use crate::sources::{SourceWords, read_source, source_asked};
-use crate::words::EXPAND;
-use call_replies::replies::Reply;
+use crate::reports::{Outcome, Report, Tool};
+use crate::sources::{SourceWords, read_source, source_in_words};
+use crate::words::OF_SOURCE;
+use clap::ArgMatches;
+use command_words::verbs::VerbWords;
 use explain_words::without_calls;
-use gr_outside::{Shelf, Sink};
+use gr_outside::Shelf;
 use std::alloc::Global;
 
 /// The tool `expand SRC`: prints a program with procedures as a program without calls. Each variable that a call adds is
@@ -13,28 +15,33 @@ use std::alloc::Global;
 ///
 /// Statuses: 0 the program was printed; 2, 3, 5, 8 and 11 as of `eval --procs`, with the same lines; 4 the text couldn't
 /// be printed.
-pub fn expand<S: Shelf, O: Sink>(alloc: Global, words: &[&str], shelf: &mut S, out: &mut O) -> u8
-    ensures files { (S.seen shelf.new).files ≡ (S.seen shelf.old).files }
-    ensures calm { result ≢ 4 → (O.seen out.new).faults ≡ (O.seen out.old).faults }
-{
-    print(alloc, expanded(alloc, words, shelf), out)
-}
+pub struct Expand;
 
-fn expanded<'a, S: Shelf>(
-    alloc: Global,
-    words: &'a [&'a str],
-    shelf: &mut S,
-) -> Result<Report, Reply<'a>>
-    ensures { (S.seen shelf.new).files ≡ (S.seen shelf.old).files }
-{
-    let asked = SourceWords {
-        procs: true,
-        ..source_asked(alloc, EXPAND, words)?
+impl<'a> Tool<'a> for Expand {
+    type Words = SourceWords<'a>;
+
+    ghost Fits = { λ words. ProfileFits words.target.profile };
+
+    const ROW: VerbWords<'static> = VerbWords {
+        name: "expand",
+        options: &[],
+        flags: &[],
+        ..OF_SOURCE
     };
-    let source = read_source(alloc, asked, shelf)?;
-    let made = without_calls(alloc, &source.text, source.program.program())?;
-    Ok(Report {
-        status: 0,
-        text: made.text,
-    })
+
+    fn words(matches: &ArgMatches<'a>) -> Option<SourceWords<'a>> {
+        Some(SourceWords {
+            procs: true,
+            ..source_in_words(matches)?
+        })
+    }
+
+    fn serve<S: Shelf>(alloc: Global, words: SourceWords<'a>, shelf: &mut S) -> Outcome<'a> {
+        let source = read_source(alloc, words, shelf)?;
+        let made = without_calls(alloc, &source.text, source.program.program())?;
+        Ok(Report {
+            status: 0,
+            text: made.text,
+        })
+    }
 }

@@ -1,8 +1,13 @@
 //! The assembly of a program with the source line of each instruction, as an assembly text with comments.
 
-use crate::code_rows::{CodeRows, START_AND_END};
+ghost use Rattle.std.specs.Prelude.{◌≡◌, ◌⊎◌, IfOk};
+ghost use Rattle.lt_isa.specs.Prelude.{ProfileFits};
+
+use crate::code_rows::{CodeRows, START_AND_END, rows_of_code};
 use crate::profile_lines::push_number;
+use crate::reports::{Report, other_form};
 use crate::source_texts::{piece, push_ascii};
+use crate::sources::{ReadSource, SourceWords};
 use gr_base::Memory;
 use line_costs::Part;
 use lt_assembler::disassemble;
@@ -39,8 +44,28 @@ struct Listing<'a> {
     banks: [u8; 8],
 }
 
-/// The listing of an object that was made of a source, with the row of each of its instructions.
-pub fn listing_text(alloc: Global, object: &Object, rows: &CodeRows) -> Result<String, Memory> {
+/// The report of the listing of an object that was made of a source. The status is 1 if the code isn't of the form that
+/// the compiler gives it.
+pub fn listing_report(
+    alloc: Global,
+    source: ReadSource,
+    object: &Object,
+    asked: SourceWords<'_>,
+) -> Result<Report, Memory>
+    requires { ProfileFits asked.target.profile }
+    ensures { IfOk result (λ report. (report.status ≡ 0) ⊎ (report.status ≡ 1)) }
+{
+    let Some(rows) = rows_of_code(alloc, source, object.code(), asked)? else {
+        return other_form(alloc, "listing");
+    };
+    Ok(Report {
+        status: 0,
+        text: listing_text(alloc, object, &rows)?,
+    })
+}
+
+// The listing of an object, with the row of each of its instructions.
+fn listing_text(alloc: Global, object: &Object, rows: &CodeRows) -> Result<String, Memory> {
     let assembly = disassemble(alloc, object)?;
     let mut lines = Vec::new(alloc);
     for line in rows.source.text.split(|byte| *byte == b'\n') {

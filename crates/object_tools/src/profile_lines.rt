@@ -14,7 +14,7 @@ const MOST_SHOWN: usize = 60;
 const WIDTH: usize = 12;
 
 /// The table of a run's costs, each row with its line of the text, and how the run ended.
-pub fn table(alloc: Global, rows: &CodeRows, costs: &Costs) -> Result<String, Memory> {
+pub(crate) fn table(alloc: Global, rows: &CodeRows, costs: &Costs) -> Result<String, Memory> {
     let mut text = String::new(alloc);
     text.push_str("      cycles    accesses     padding  line\n")?;
     push_row(alloc, &mut text, costs, START_AND_END as usize)?;

@@ -1,15 +1,17 @@
-//! Why a variable is stored where it is.
+//! Where each variable of a program is stored, and why.
 
+ghost use Rattle.std.specs.Prelude.{◌≡◌, IfOk, length};
 ghost use Rattle.lt_isa.specs.Prelude.{ProfileFits};
 
 use crate::source_texts::{Access, SourceText};
-use crate::variables::{number_of, push_name};
+use crate::sources::{ReadSource, SourceWords};
+use crate::variables::{label_text, number_of, push_name};
 use bank_alloc::banks;
 use call_steps::targets::Target;
 use compiled_objects::fast_plan;
 use flow_types::Typed;
 use gr_base::Memory;
-use gr_word::Name;
+use gr_word::{Name, Shape};
 use lt_isa::{BankKind, Object, Symbol, bank_kind};
 use scratch_alloc::{Pin, SlotPlan, slots};
 use src_tree::Decl;
@@ -18,17 +20,54 @@ use std::alloc::Global;
 /// The most variables that are named as sharing a slot.
 const MOST_NAMED: u32 = 4;
 
-/// What decides where the variables of a program are stored.
+// What decides where the variables of an object are stored.
 #[derive(Clone, Copy)]
-pub struct Reasons<'a> {
-    pub source: &'a SourceText,
-    pub accesses: &'a [Option<Access>],
-    pub decls: &'a [Decl],
-    pub slots: &'a SlotPlan,
+struct Reasons<'a> {
+    object: &'a Object,
+    source: &'a SourceText,
+    accesses: &'a [Option<Access>],
+    decls: &'a [Decl],
+    slots: &'a SlotPlan,
+}
+
+/// A line for each variable of an object that was made of a source, in the order of banks and places.
+pub fn layout_lines(
+    alloc: Global,
+    source: ReadSource,
+    object: &Object,
+    asked: SourceWords<'_>,
+) -> Result<Vec<String>, Memory>
+    requires { ProfileFits asked.target.profile }
+    ensures { IfOk result (λ lines. length lines.items ≡ length object.now.symbols) }
+{
+    let ReadSource { text, program } = source;
+    let slots = slots_of(alloc, &program, &asked.target)?;
+    let source = SourceText::of(alloc, text, program.program(), asked.procs)?;
+    let decls = program.program().decls.as_slice();
+    let accesses = source.secret_accesses(alloc, decls)?;
+    let reasons = Reasons {
+        object,
+        source: &source,
+        accesses: &accesses,
+        decls,
+        slots: &slots,
+    };
+    lines_of(alloc, reasons, object.symbols())
+}
+
+// The lines of some variables.
+fn lines_of(alloc: Global, reasons: Reasons<'_>, symbols: &[Symbol]) -> Result<Vec<String>, Memory>
+    ensures { IfOk result (λ lines. length lines.items ≡ length symbols.now) }
+{
+    let mut lines = Vec::with_capacity(alloc, symbols.len())?;
+    for symbol in symbols {
+        lines.push(reasons.line_of(alloc, symbol)?)?;
+    }
+    Ok(lines)
 }
 
 /// How the code of a program uses the slots of the scratchpad.
-pub fn slots_of(alloc: Global, program: &Typed, target: &Target) -> Result<SlotPlan, Memory>
+pub(crate) fn slots_of(alloc: Global, program: &Typed, target: &Target) -> Result<SlotPlan, Memory>
     requires { ProfileFits target.now.profile }
 {
     let block_log = target.profile.block_log;
@@ -63,36 +102,33 @@ fn has_words_of(pin: Pin, symbol: &Symbol, block_log: u8) -> bool {
 }
 
 impl Reasons<'_> {
-    /// The name of an object's variable as the text has it.
-    pub fn name_of<'a>(&'a self, symbol: &'a Symbol) -> &'a Name {
+    // The line of a variable.
+    fn line_of(&self, alloc: Global, symbol: &Symbol) -> Result<String, Memory> {
+        let mut text = String::new(alloc);
+        push_place(alloc, &mut text, symbol, self.name_of(symbol))?;
+        self.push_reason(alloc, &mut text, symbol)?;
+        text.push_str("\n")?;
+        Ok(text)
+    }
+
+    // The name of a variable as the text has it.
+    fn name_of<'a>(&'a self, symbol: &'a Symbol) -> &'a Name {
         match number_of(self.decls, symbol.name.bytes()) {
             Some(number) => self.source.name_of(number, &symbol.name),
             None => &symbol.name,
         }
     }
 
-    /// Adds why a variable of an object is in its bank.
-    pub fn push_reason(
-        &self,
-        alloc: Global,
-        text: &mut String,
-        object: &Object,
-        symbol: &Symbol,
-    ) -> Result<(), Memory> {
+    // Adds why a variable is in its bank.
+    fn push_reason(&self, alloc: Global, text: &mut String, symbol: &Symbol) -> Result<(), Memory> {
         match bank_kind(symbol.bank) {
-            BankKind::Oblivious => self.push_oblivious(alloc, text, object, symbol),
-            BankKind::Plain | BankKind::Encrypted => self.push_slot(alloc, text, object, symbol),
+            BankKind::Oblivious => self.push_oram(alloc, text, symbol),
+            BankKind::Plain | BankKind::Encrypted => self.push_slot(alloc, text, symbol),
         }
     }
 
     // Adds the secret index that makes an array oblivious, and what an access costs.
-    fn push_oblivious(
-        &self,
-        alloc: Global,
-        text: &mut String,
-        object: &Object,
-        symbol: &Symbol,
-    ) -> Result<(), Memory> {
+    fn push_oram(&self, alloc: Global, text: &mut String, symbol: &Symbol) -> Result<(), Memory> {
         text.push_str("; oblivious")?;
         if let Some(access) = self.access_to(symbol) {
             let spot = self.source.spot_of(access);
@@ -105,7 +141,7 @@ impl Reasons<'_> {
             }
             text.push_str(" is secret")?;
         }
-        if let Some(bank) = object.banks().get(usize::from(symbol.bank)) {
+        if let Some(bank) = self.object.banks().get(usize::from(symbol.bank)) {
             let cycles = bank.latency;
             text.push_str(format!(in alloc; "; an access takes {cycles} cycles")?.as_str())?;
         }
@@ -119,13 +155,7 @@ impl Reasons<'_> {
     }
 
     // Adds the slot of a variable of plain or encrypted memory.
-    fn push_slot(
-        &self,
-        alloc: Global,
-        text: &mut String,
-        object: &Object,
-        symbol: &Symbol,
-    ) -> Result<(), Memory> {
+    fn push_slot(&self, alloc: Global, text: &mut String, symbol: &Symbol) -> Result<(), Memory> {
         let Some(number) = number_of(self.decls, symbol.name.bytes()) else {
             return Ok(());
         };
@@ -134,21 +164,15 @@ impl Reasons<'_> {
         };
         let slot = *slot;
         if is_pinned(self.slots, slot) {
-            return self.push_resident(alloc, text, object, symbol);
+            return self.push_pinned(alloc, text, symbol);
         }
         text.push_str(format!(in alloc; "; cached: slot {slot}")?.as_str())?;
         self.push_sharers(alloc, text, number, slot)
     }
 
     // Adds the slots that hold a variable for the whole run: one for each block that has words of it.
-    fn push_resident(
-        &self,
-        alloc: Global,
-        text: &mut String,
-        object: &Object,
-        symbol: &Symbol,
-    ) -> Result<(), Memory> {
-        let block_log = object.profile().block_log;
+    fn push_pinned(&self, alloc: Global, text: &mut String, symbol: &Symbol) -> Result<(), Memory> {
+        let block_log = self.object.profile().block_log;
         let mut numbers = String::new(alloc);
         let mut several = false;
         for (slot, pin) in self.slots.pins.iter().enumerate() {
@@ -197,4 +221,38 @@ impl Reasons<'_> {
         }
         Ok(())
     }
+}
+
+// Adds the name of a variable, and where it is stored.
+fn push_place(
+    alloc: Global,
+    text: &mut String,
+    symbol: &Symbol,
+    name: &Name,
+) -> Result<(), Memory> {
+    text.push_str(label_text(symbol.label))?;
+    text.push_str(" ")?;
+    push_name(text, name)?;
+    let length = symbol.length;
+    if let Shape::Array = symbol.shape {
+        text.push_str(format!(in alloc; "[{length}]")?.as_str())?;
+    }
+    push_memory(alloc, text, symbol.bank)?;
+    let block = symbol.block;
+    let word = symbol.word;
+    let unit = if length == 1 { "word" } else { "words" };
+    text.push_str(format!(in alloc; ", block {block}, word {word}, {length} {unit}")?.as_str())?;
+    Ok(())
+}
+
+// Adds the name of a memory.
+fn push_memory(alloc: Global, text: &mut String, bank: u8) -> Result<(), Memory> {
+    match bank_kind(bank) {
+        BankKind::Plain => text.push_str(": plain memory")?,
+        BankKind::Encrypted => text.push_str(": encrypted memory")?,
+        BankKind::Oblivious => {
+            text.push_str(format!(in alloc; ": oblivious bank {bank}")?.as_str())?;
+        }
+    }
+    Ok(())
 }

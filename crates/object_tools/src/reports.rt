@@ -1,11 +1,21 @@
-ghost use Rattle.std.specs.Prelude.{◌≡◌, ◌≢◌};
+//! Tools as a trait: what a tool finds in the words of a command line, and what it prints. The functions here do for
+//! every tool what doesn't depend on it.
+
+ghost use Rattle.std.specs.Prelude.{◌≡◌, ◌≢◌, IfOk, IfSome};
 ghost use Rattle.object_tools.specs.Statuses.{end_status};
 
+use crate::words::matches_of;
 use call_replies::replies::Reply;
 use call_steps::putting::{NOT_PUT, put_text, say};
-use gr_outside::Sink;
+use clap::ArgMatches;
+use command_words::verbs::VerbWords;
+use gr_base::Memory;
+use gr_outside::{Shelf, Sink};
 use processor::End;
 use std::alloc::Global;
+
+/// The status if the code isn't of the form that the compiler gives it.
+const OTHER_FORM: u8 = 1;
 
 /// What a tool prints, and the exit status that goes with it.
 #[derive(Drop)]
@@ -14,8 +24,63 @@ pub struct Report {
     pub text: String,
 }
 
-/// Prints a report, or the line of what ended the work, and returns the exit status: 4 if it couldn't be printed.
-pub fn print<O: Sink>(alloc: Global, outcome: Result<Report, Reply<'_>>, out: &mut O) -> u8
+/// What a tool prints: its report, or the reply if there is none.
+pub type Outcome<'a> = Result<Report, Reply<'a>>;
+
+/// A tool: a verb that prints a report of the files that its words name, and writes no file.
+pub trait Tool<'a> {
+    /// What the tool finds in the words of a command line.
+    type Words: Drop;
+
+    /// What is known of the numbers among it.
+    ghost Fits: { Self.Words → Type 0 };
+
+    /// The words that the tool takes.
+    const ROW: VerbWords<'static>;
+
+    /// Finds the words, or returns `None` if an option has no valid value.
+    fn words(matches: &ArgMatches<'a>) -> Option<Self::Words>
+        ensures { IfSome result Fits };
+
+    /// Does the work, and returns what to print.
+    fn serve<S: Shelf>(alloc: Global, words: Self::Words, shelf: &mut S) -> Outcome<'a>
+        requires { Self.Fits words }
+        ensures { (S.seen shelf.new).files ≡ (S.seen shelf.old).files };
+}
+
+/// Does the work that the words of a tool ask for, the tool's name first. Prints the report, or the line of what ended
+/// the work, and returns the exit status: 4 if it couldn't be printed.
+pub fn print_report<'a, T: Tool<'a>, S: Shelf, O: Sink>(
+    alloc: Global,
+    words: &'a [&'a str],
+    shelf: &mut S,
+    out: &mut O,
+) -> u8
+    ensures files { (S.seen shelf.new).files ≡ (S.seen shelf.old).files }
+    ensures calm { result ≢ 4 → (O.seen out.new).faults ≡ (O.seen out.old).faults }
+{
+    print(alloc, report_of::<T, S>(alloc, words, shelf), out)
+}
+
+// What a tool prints of the work that its words ask for.
+fn report_of<'a, T: Tool<'a>, S: Shelf>(
+    alloc: Global,
+    words: &'a [&'a str],
+    shelf: &mut S,
+) -> Outcome<'a>
+    ensures { (S.seen shelf.new).files ≡ (S.seen shelf.old).files }
+{
+    let Some(matches) = matches_of(alloc, T::ROW, words)? else {
+        return Err(Reply::Usage);
+    };
+    let Some(asked) = T::words(&matches) else {
+        return Err(Reply::Usage);
+    };
+    T::serve(alloc, asked, shelf)
+}
+
+// Prints a report, or the line of what ended the work, and returns the exit status: 4 if it couldn't be printed.
+fn print<O: Sink>(alloc: Global, outcome: Outcome<'_>, out: &mut O) -> u8
     ensures { result ≢ 4 → (O.seen out.new).faults ≡ (O.seen out.old).faults }
 {
     let status = put_outcome(alloc, outcome, out);
@@ -26,7 +91,7 @@ pub fn print<O: Sink>(alloc: Global, outcome: Result<Report, Reply<'_>>, out: &m
 }
 
 // Puts a report, or the line of what ended the work.
-fn put_outcome<O: Sink>(alloc: Global, outcome: Result<Report, Reply<'_>>, out: &mut O) -> u8
+fn put_outcome<O: Sink>(alloc: Global, outcome: Outcome<'_>, out: &mut O) -> u8
     ensures { result ≢ 4 → (O.seen out.new).faults ≡ (O.seen out.old).faults }
 {
     match outcome {
@@ -43,4 +108,14 @@ pub fn end_status(end: End) -> u8
         End::Halted(_) => 0,
         End::Spent => 10,
     }
+}
+
+/// The report of a tool that prints nothing, since the code has an unknown form.
+pub(crate) fn other_form(alloc: Global, tool: &str) -> Result<Report, Memory>
+    ensures { IfOk result (λ report. report.status ≡ 1) }
+{
+    Ok(Report {
+        status: OTHER_FORM,
+        text: format!(in alloc; "no {tool}: the code of this program has an unknown form\n")?,
+    })
 }

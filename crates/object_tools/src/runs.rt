@@ -9,7 +9,7 @@ ghost use Rattle.object_tools.specs.Comparing.{Compares};
 ghost use Rattle.object_tools.specs.Runs.{LeavesWords};
 
 use crate::comparing::{Comparison, compare};
-use call_steps::oblivious::{Seeded, SeededOram, SeededRecursive, load_seeded};
+use call_steps::oblivious::{Seeded, SeededOram, load_seeded};
 use clap::ArgMatches;
 use command_words::options::{flag_given, number_given, seed_given, value};
 use flow_types::Typed;
@@ -59,29 +59,8 @@ pub(crate) fn words_left(
     }
 }
 
-/// Compares the traces of an accepted object's runs on two inputs.
-pub(crate) fn compare_runs(
-    alloc: Global,
-    accepted: &Accepted,
-    first: &Inputs,
-    second: &Inputs,
-    asked: RunWords,
-) -> Result<Comparison, Memory>
-    requires in_range { IsInRange accepted.now }
-    requires first { FitsObject accepted.now first.now }
-    requires second { FitsObject accepted.now second.now }
-    ensures { IfOk result (Compares
-        (trace accepted.now first.now asked.cycles)
-        (trace accepted.now second.now asked.cycles)) }
-{
-    if asked.recursive {
-        return compare_over::<SeededRecursive>(alloc, accepted, first, second, asked);
-    }
-    compare_over::<SeededOram>(alloc, accepted, first, second, asked)
-}
-
-// Compares the runs over oblivious banks of a kind.
-fn compare_over<B: Seeded + Drop>(
+/// Compares the traces of an accepted object's runs on two inputs, over oblivious banks of a kind.
+pub(crate) fn compare_runs<B: Seeded + Drop>(
     alloc: Global,
     accepted: &Accepted,
     first: &Inputs,

@@ -19,7 +19,7 @@ const MOST_QUOTED: usize = 16;
 /// A program's text with its tokens and the names of its variables, in the order of declaration: the file's own, or for a
 /// file with procedures those of the program that `expand` prints.
 #[derive(Drop)]
-pub struct SourceText {
+pub(crate) struct SourceText {
     pub(crate) text: Vec<u8>,
     tokens: Vec<Token>,
     names: Vec<Name>,
@@ -28,7 +28,7 @@ pub struct SourceText {
 
 /// Tokens of an access to an array: its name, and the bracket after its index.
 #[derive(Clone, Copy)]
-pub struct Access {
+pub(crate) struct Access {
     name: usize,
     end: usize,
 }
@@ -58,7 +58,7 @@ impl SourceText {
     }
 
     /// The text of a program that was read from a file, with procedures or without.
-    pub fn of(
+    pub(crate) fn of(
         alloc: Global,
         text: Vec<u8>,
         program: &Program,
@@ -177,7 +177,7 @@ impl SourceText {
     }
 
     /// The first access with a secret index to each variable that has one, in the order of declaration.
-    pub fn secret_accesses<'a>(
+    pub(crate) fn secret_accesses<'a>(
         &'a self,
         alloc: Global,
         decls: &'a [Decl],

@@ -3,7 +3,8 @@
 ghost use Rattle.std.specs.Prelude.{◌≡◌, ◌≤◌, IfOk, IfSome, length};
 ghost use Rattle.lt_isa.specs.Prelude.{ProfileFits};
 
-use crate::words::matches_of;
+use crate::reports::{Outcome, Tool};
+use crate::words::OF_SOURCE;
 use call_replies::replies::{Reply, Verdict};
 use call_steps::sources::find_source;
 use call_steps::targets::Target;
@@ -44,23 +45,6 @@ pub fn source_in_words<'a>(matches: &ArgMatches<'a>) -> Option<SourceWords<'a>>
         },
         procs: flag_given(value(matches, "procs")),
     })
-}
-
-/// The source that the words of a call of a tool name, or the reply if the words don't fit.
-pub fn source_asked<'a>(
-    alloc: Global,
-    tool: VerbWords<'static>,
-    words: &'a [&'a str],
-) -> Result<SourceWords<'a>, Reply<'a>>
-    ensures { IfOk result (λ asked. ProfileFits asked.target.profile) }
-{
-    let Some(matches) = matches_of(alloc, tool, words)? else {
-        return Err(Reply::Usage);
-    };
-    match source_in_words(&matches) {
-        Some(asked) => Ok(asked),
-        None => Err(Reply::Usage),
-    }
 }
 
 /// The contents of the file of this name, or the reply if it can't be read, has more bytes than the limit, or memory ran
@@ -106,6 +90,36 @@ pub fn read_source<'a, S: Shelf>(
     let mut copy = shelf_of(alloc, asked.name, text.as_slice())?;
     let program = find_source(alloc, asked.name, asked.procs, &mut copy)?;
     Ok(ReadSource { text, program })
+}
+
+/// A tool of a source only: it prints what is known of its program without a run.
+pub trait SourceTool {
+    /// The name of the tool.
+    const NAME: &'static str;
+
+    /// Does the work on the program that was read, and returns what to print.
+    fn report<'a>(alloc: Global, source: ReadSource, asked: SourceWords<'a>) -> Outcome<'a>
+        requires { ProfileFits asked.target.profile };
+}
+
+impl<'a, T: SourceTool> Tool<'a> for T {
+    type Words = SourceWords<'a>;
+
+    ghost Fits = { λ words. ProfileFits words.target.profile };
+
+    const ROW: VerbWords<'static> = VerbWords {
+        name: T::NAME,
+        ..OF_SOURCE
+    };
+
+    fn words(matches: &ArgMatches<'a>) -> Option<SourceWords<'a>> {
+        source_in_words(matches)
+    }
+
+    fn serve<S: Shelf>(alloc: Global, words: SourceWords<'a>, shelf: &mut S) -> Outcome<'a> {
+        let source = read_source(alloc, words, shelf)?;
+        T::report(alloc, source, words)
+    }
 }
 
 // A shelf with one file.

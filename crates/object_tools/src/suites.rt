@@ -11,6 +11,7 @@ use crate::comparing::Comparison;
 use crate::expectations::check_expected;
 use crate::runs::{RunWords, compare_runs, values_meant, words_left};
 use crate::variables::{number_of, words_of};
+use call_steps::oblivious::SeededOram;
 use flow_types::Typed;
 use gr_base::Memory;
 use gr_word::{Inputs, Label};
@@ -203,7 +204,7 @@ fn compare_with(
         seed: 0,
         recursive: false,
     };
-    match compare_runs(alloc, subject.accepted, &first, inputs, run)? {
+    match compare_runs::<SeededOram>(alloc, subject.accepted, &first, inputs, run)? {
         Comparison::Equal { .. } => Ok(()),
         Comparison::Differ { events, .. } => Err(shown(alloc, other.line, events)),
     }

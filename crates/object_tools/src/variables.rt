@@ -5,7 +5,7 @@ use src_tree::Decl;
 use std::alloc::Global;
 
 /// The word for a label.
-pub fn label_text(label: Label) -> &'static str {
+pub(crate) fn label_text(label: Label) -> &'static str {
     match label {
         Label::Public => "public",
         Label::Secret => "secret",
@@ -13,7 +13,7 @@ pub fn label_text(label: Label) -> &'static str {
 }
 
 /// Adds a name to a text.
-pub fn push_name(text: &mut String, name: &Name) -> Result<(), Memory> {
+pub(crate) fn push_name(text: &mut String, name: &Name) -> Result<(), Memory> {
     for byte in name.bytes() {
         text.push(char::from(*byte))?;
     }

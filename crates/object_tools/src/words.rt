@@ -9,67 +9,22 @@ use command_words::verbs::{Argument, VerbWords, with_all};
 use gr_base::Memory;
 use std::alloc::Global;
 
-/// The words that `diff` takes.
-pub const DIFF: VerbWords<'static> = VerbWords {
-    name: "diff",
+/// The words of a tool that runs an object, without its name and the names of its files.
+pub(crate) const OF_RUN: VerbWords<'static> = VerbWords {
+    name: "",
     place: Argument::Word,
-    places: &["OBJ", "FIRST", "SECOND"],
+    places: &[],
     options: &["cycles", "seed"],
     flags: &["paths", "recursive"],
 };
 
-/// The words that `count` takes.
-pub const COUNT: VerbWords<'static> = VerbWords {
-    name: "count",
-    place: Argument::Word,
-    places: &["OBJ", "INPUT"],
-    options: &["cycles", "seed"],
-    flags: &["paths", "recursive"],
-};
-
-/// The words that `layout` takes.
-pub const LAYOUT: VerbWords<'static> = VerbWords {
-    name: "layout",
+/// The words of a tool that compiles a source, without its name.
+pub const OF_SOURCE: VerbWords<'static> = VerbWords {
+    name: "",
     place: Argument::Word,
     places: &["SRC"],
     options: &["block-log", "window"],
     flags: &["procs", "fast"],
-};
-
-/// The words that `listing` takes.
-pub const LISTING: VerbWords<'static> = VerbWords {
-    name: "listing",
-    place: Argument::Word,
-    places: &["SRC"],
-    options: &["block-log", "window"],
-    flags: &["procs", "fast"],
-};
-
-/// The words that `test` takes.
-pub const TEST: VerbWords<'static> = VerbWords {
-    name: "test",
-    place: Argument::Word,
-    places: &["SRC", "CASES"],
-    options: &["block-log", "window", "cycles"],
-    flags: &["procs", "fast"],
-};
-
-/// The words that `profile` takes.
-pub const PROFILE: VerbWords<'static> = VerbWords {
-    name: "profile",
-    place: Argument::Word,
-    places: &["SRC", "INPUT"],
-    options: &["block-log", "window", "cycles"],
-    flags: &["procs", "fast"],
-};
-
-/// The words that `expand` takes.
-pub const EXPAND: VerbWords<'static> = VerbWords {
-    name: "expand",
-    place: Argument::Word,
-    places: &["SRC"],
-    options: &[],
-    flags: &[],
 };
 
 /// What a tool finds in the words, its name first, or `None` if they don't fit. The clause is about commands that `clap`

@@ -1,19 +1,31 @@
 use Rattle.std.proofs.Common.{true≢false, is_some, sym, ap, ◌∙◌}
 use Rattle.command_words.specs.Prelude.{texts}
 use Rattle.call_laws.specs.Prelude.{work_of}
-use Rattle.ghost_front.proofs.CallEnds.{told_keeps}
+use Rattle.ghost_front.specs.Prelude.{around}
+use Rattle.ghost_front.proofs.CallEnds.{serves_keep, told_keeps}
 use Rattle.ghost_front.proofs.top.end_call.Goals as goal
 
-pub returns-in-Some-clause-served : goal.returns-in-Some-clause-served
-returns-in-Some-clause-served g c front tool =
-    absurd (true≢false (sym (ap is_some c.in-Some.is) ∙ c.request_in.ensures ∙ front))
+pub returns-then-let-clause-served : goal.returns-then-let-clause-served
+returns-then-let-clause-served g c front tool =
+    absurd (true≢false (sym (ap is_some c.then-let.is) ∙ c.request_in.ensures ∙ front))
 
-pub returns-in-Some-clause-others : goal.returns-in-Some-clause-others
-returns-in-Some-clause-others g c =
+pub returns-then-let-clause-others : goal.returns-then-let-clause-others
+returns-then-let-clause-others g c =
     told_keeps (work_of (texts c.args.words.now)) c.args.shelf.now c.answer.new.shelf c.answer.ensures
 
+pub returns-in-Some-clause-served : goal.returns-in-Some-clause-served
+returns-in-Some-clause-served g c front verb =
+    absurd (true≢false (sym (ap is_some c.in-Some.is) ∙ c.tool_in.ensures ∙ verb))
+
+pub returns-in-Some-clause-others : goal.returns-in-Some-clause-others
+returns-in-Some-clause-others g c = c.serve_tool.ensures
+
 pub returns-in-None-clause-served : goal.returns-in-None-clause-served
-returns-in-None-clause-served g c front tool = c.serve_other.ensures.served tool
+returns-in-None-clause-served g c front verb = c.serve.ensures
 
 pub returns-in-None-clause-others : goal.returns-in-None-clause-others
-returns-in-None-clause-others g c = c.serve_other.ensures.others
+returns-in-None-clause-others g c =
+    serves_keep (work_of (texts c.args.words.now))
+    (around c.args.shelf.now (g.O.Sink.seen c.args.out.now) (g.E.Sink.seen c.args.errors.now))
+    (around c.serve.new.shelf (g.O.Sink.seen c.serve.new.out) (g.E.Sink.seen c.serve.new.errors))
+    c.serve.result.status c.serve.ensures

@@ -5,8 +5,8 @@ use Rattle.object_tools.proofs.StatusLaws.{says-of-both}
 use Rattle.object_tools.proofs.diff_tool.report.Goals as goal
 
 pub returns : goal.returns
-returns c =
+returns g c =
+    let o = c.args.first.now.accepted in
     subst
-    (SaysOfBoth (trace c.args.accepted.now c.args.first.now c.args.asked.cycles)
-    (trace c.args.accepted.now c.args.second.now c.args.asked.cycles))
+    (SaysOfBoth (trace o c.args.first.now.inputs c.args.asked.cycles) (trace o c.args.second.now c.args.asked.cycles))
     (sym c.status_of.ensures) (says-of-both _ _ c.in_ok-comparison.comparison c.in_ok-comparison.ensures)

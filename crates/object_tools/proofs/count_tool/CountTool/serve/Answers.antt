@@ -1,7 +1,7 @@
 use Rattle.std.proofs.Common.{ap, ◌∙◌}
 use Rattle.gr_outside.specs.Prelude.{ShelfSeen}
 use Rattle.object_tools.proofs.FilesStay.{any_work, files-stay}
-use Rattle.object_tools.proofs.count_tool.count_files.Goals as goal
+use Rattle.object_tools.proofs.count_tool.CountTool.serve.Goals as goal
 
 pub returns-in_err-accepted : goal.returns-in_err-accepted
 returns-in_err-accepted g c = files-stay _ _ _ _ (c.in_err-accepted.ensures.stopped (λ o. any_work)).stops

@@ -1,5 +1,5 @@
 use Rattle.object_tools.proofs.Begun.{compares-begun}
-use Rattle.object_tools.proofs.runs.compare_over.Goals as goal
+use Rattle.object_tools.proofs.runs.compare_runs.Goals as goal
 
 pub returns : goal.returns
 returns g c =
