@@ -48,6 +48,5 @@ pub(crate) fn saying_of(alloc: Global, before: &str, name: &str, after: &str) ->
 
 fn quoted_between(alloc: Global, before: &str, name: &str, after: &str) -> Result<String, Memory> {
     let name = JsonText::new(alloc, name)?;
-    let name = name.text();
     Ok(format!(in alloc; "{before}{name}{after}")?)
 }
