@@ -82,7 +82,7 @@ pub(crate) fn put_numbered(
 {
     match index.numbering {
         Numbering::Compared => put_compared(emitter, out, index),
-        Numbering::Reduced => put_reduced(emitter, out, index),
+        Numbering::Reduced => put_reduced(emitter, out, index.array, index.to, index.from),
         Numbering::Within => out.put(&[]),
     }
 }
@@ -205,13 +205,24 @@ pub fn reducer_at(place: Place) -> i64
 }
 
 // The index in a register becomes the number of the word.
-fn put_reduced(emitter: &Emitter<'_, '_, '_>, out: &mut CodeBuf, index: Indexed) -> PutResult
-    requires registers { index.to + 2 < 19 }
-    ensures appended { OnOk result
-        (Appended out.old out.new (reduced_code emitter.now (home_in index.array) index.to index.from) no_notes) }
+fn put_reduced(
+    emitter: &Emitter<'_, '_, '_>,
+    out: &mut CodeBuf,
+    array: Variable,
+    to: u8,
+    from: u8,
+) -> PutResult
+    requires registers { to + 2 < 19 }
+    ensures appended { OnOk result (Appended out.old out.new (reduced_code emitter.now (home_in array) to from) no_notes) }
     ensures grows { CodeGrows out.old out.new }
 {
-    let op = reducing(index.array);
-    let number = reducer(index.array);
-    put_applied(emitter, out, op, index.to, index.from, index.to + 1, number)
+    put_applied(
+        emitter,
+        out,
+        reducing(array),
+        to,
+        from,
+        to + 1,
+        reducer(array),
+    )
 }
