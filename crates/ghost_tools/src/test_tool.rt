@@ -39,7 +39,7 @@ pub struct Test;
 impl<'a> Tool<'a> for Test {
     type Words = TestWords<'a>;
 
-    ghost Fits = { λ words. ProfileFits words.source.target.profile × 1 ≤ words.cycles };
+    ghost Fits = { λ words. ProfileFits words.source.target.profile × (1 ≤ words.cycles) };
 
     const ROW: VerbWords<'static> = VerbWords {
         name: "test",
