@@ -5,20 +5,20 @@ use Rattle.ghost_front.specs.Prelude.{around}
 use Rattle.ghost_front.proofs.CallEnds.{serves_keep, told_keeps}
 use Rattle.ghost_front.proofs.top.end_call.Goals as goal
 
-pub returns-then-let-clause-served : goal.returns-then-let-clause-served
-returns-then-let-clause-served g c front tool =
-    absurd (true≢false (sym (ap is_some c.then-let.is) ∙ c.request_in.ensures ∙ front))
-
-pub returns-then-let-clause-others : goal.returns-then-let-clause-others
-returns-then-let-clause-others g c =
-    told_keeps (work_of (texts c.args.words.now)) c.args.shelf.now c.answer.new.shelf c.answer.ensures
-
 pub returns-in-Some-clause-served : goal.returns-in-Some-clause-served
-returns-in-Some-clause-served g c front verb =
-    absurd (true≢false (sym (ap is_some c.in-Some.is) ∙ c.tool_in.ensures ∙ verb))
+returns-in-Some-clause-served g c front tool =
+    absurd (true≢false (sym (ap is_some c.in-Some.is) ∙ c.request_in.ensures ∙ front))
 
 pub returns-in-Some-clause-others : goal.returns-in-Some-clause-others
-returns-in-Some-clause-others g c = c.serve_tool.ensures
+returns-in-Some-clause-others g c =
+    told_keeps (work_of (texts c.args.words.now)) c.args.shelf.now c.answer.new.shelf c.answer.ensures
+
+pub returns-in-Some-tool_in-clause-served : goal.returns-in-Some-tool_in-clause-served
+returns-in-Some-tool_in-clause-served g c front verb =
+    absurd (true≢false (sym (ap is_some c.in-Some-tool_in.is) ∙ c.tool_in.ensures ∙ verb))
+
+pub returns-in-Some-tool_in-clause-others : goal.returns-in-Some-tool_in-clause-others
+returns-in-Some-tool_in-clause-others g c = c.serve_tool.ensures
 
 pub returns-in-None-clause-served : goal.returns-in-None-clause-served
 returns-in-None-clause-served g c front verb = c.serve.ensures
