@@ -126,15 +126,21 @@ text-starved n few text is said refuses =
 -- there is room for its variables
 pub no-room_fault : (fast : Bool) (n : ℕ) → n ≤ 65536 → (e : CompileError) (shown : SourceFault)
     → LacksRoom fast e (sample_program n) 9 → room_fault e ≡ Some shown → ⊥
-no-room_fault fast n few (room.TooManyScalars Public) shown many is =
+no-room_fault false n few (room.TooManyScalars Public) shown many is =
     let fits = (sample_fits n few).scalars.public in omega (arith, many, fits)
-no-room_fault fast n few (room.TooManyScalars Secret) shown many is =
+no-room_fault false n few (room.TooManyScalars Secret) shown many is =
     let fits = (sample_fits n few).scalars.secret in omega (arith, many.1, fits)
 no-room_fault false n few (room.BankFull bank) shown full is =
     let needs = sample_needs n bank few in omega (arith, full.1.full, needs)
+no-room_fault false n few room.Memory shown none is =
+    absurd (let f : ◌≡◌ {A = Option SourceFault} None (Some shown) = is in cc)
+no-room_fault true n few (room.TooManyScalars Public) shown many is =
+    let fits = (sample_fits n few).scalars.public in omega (arith, many, fits)
+no-room_fault true n few (room.TooManyScalars Secret) shown many is =
+    let fits = (sample_fits n few).scalars.secret in omega (arith, many.1, fits)
 no-room_fault true n few (room.BankFull bank) shown full is =
     let needs = resident_needs n bank few in omega (arith, full.1.full, needs)
-no-room_fault fast n few room.Memory shown none is =
+no-room_fault true n few room.Memory shown none is =
     absurd (let f : ◌≡◌ {A = Option SourceFault} None (Some shown) = is in cc)
 
 object-starved : (fast : Bool) (n : ℕ) → n ≤ 65536 → (verdict : Verdict) (answer : Result (List ℕ) SourceFault)
