@@ -58,8 +58,8 @@ pub(crate) const VERBS: [VerbHelp; 17] = [
     },
     VerbHelp {
         usage: "eval SRC INPUT OUT [--turns N] [--procs]",
-        text: "    Evaluates a program on inputs, without compiling it, and writes the final values of its variables\n    \
-            to OUT.\n",
+        text: "    Evaluates a program on inputs, without compiling it, and writes the final values of its\n    \
+            variables to OUT.\n",
     },
     VerbHelp {
         usage: "test SRC CASES [--fast] [--block-log W] [--window P:O:C] [--procs] [--cycles N]",
@@ -79,8 +79,8 @@ pub(crate) const VERBS: [VerbHelp; 17] = [
     },
     VerbHelp {
         usage: "profile SRC INPUT [--fast] [--block-log W] [--window P:O:C] [--procs] [--cycles N]",
-        text: "    Compiles and runs a program. Prints for each of its lines the cycles, the accesses to memory, and\n    \
-            how many of the cycles only pad the arms of branches on secrets.\n",
+        text: "    Compiles and runs a program. Prints for each of its lines the cycles, the accesses to memory,\n    \
+            and how many of the cycles only pad the arms of branches on secrets.\n",
     },
     VerbHelp {
         usage: "count OBJ INPUT [--cycles N] [--seed S] [--paths] [--recursive]",
@@ -144,8 +144,8 @@ const OTHERS: [VerbHelp; 5] = [
 pub(crate) const OPTIONS: [OptionHelp; 9] = [
     OptionHelp {
         option: "--fast",
-        text: "        Keeps arrays in the scratchpad for the whole run if there is room. The object takes far fewer\n        \
-            cycles and shows no more.\n",
+        text: "        Keeps arrays in the scratchpad for the whole run if there is room. The object takes far\n        \
+            fewer cycles and shows no more.\n",
     },
     OptionHelp {
         option: "--block-log W",
@@ -166,23 +166,23 @@ pub(crate) const OPTIONS: [OptionHelp; 9] = [
     },
     OptionHelp {
         option: "--turns N",
-        text: "        Ends the evaluation after N iterations of all loops together, from 1 to 4294967295. The default\n        \
-            is 1000000000.\n",
+        text: "        Ends the evaluation after N iterations of all loops together, from 1 to 4294967295. The\n        \
+            default is 1000000000.\n",
     },
     OptionHelp {
         option: "--seed S",
-        text: "        The seed of the random words of oblivious banks, from 0 to 18446744073709551615. The default is\n        \
-            0.\n",
+        text: "        The seed of the random words of oblivious banks, from 0 to 18446744073709551615. The\n        \
+            default is 0.\n",
     },
     OptionHelp {
         option: "--paths",
-        text: "        Also prints the path of each access to an oblivious bank, and the level of each block at the end.\n        \
-            `diff` and `count` accept it, but print no paths.\n",
+        text: "        Also prints the path of each access to an oblivious bank, and the level of each block at\n        \
+            the end. `diff` and `count` accept it, but print no paths.\n",
     },
     OptionHelp {
         option: "--recursive",
-        text: "        Stores each position map in smaller oblivious banks. --paths then prints the paths of all their\n        \
-            trees, and no levels.\n",
+        text: "        Stores each position map in smaller oblivious banks. --paths then prints the paths of\n        \
+            all their trees, and no levels.\n",
     },
 ];
 
@@ -289,9 +289,9 @@ pub(crate) const WRITES: &str =
 
 /// What `help` prints of all verbs.
 pub(crate) const NOTES: &str =
-    "After `--` each argument is the name of a file. Explanations of errors, and warnings, go to standard\n\
-    error. Before the verb, --quiet turns them off, and --json prints each as a line of JSON. `ghostrider\n\
-    help VERB` prints what belongs to one verb, and `ghostrider version` prints the version.\n";
+    "After `--` each argument is the name of a file. Explanations of errors, and warnings, go to\n\
+    standard error. Before the verb, --quiet turns them off, and --json prints each as a line of JSON.\n\
+    `ghostrider help VERB` prints what belongs to one verb, `ghostrider version` the version.\n";
 
 /// The name of a verb: the first word of its usage.
 #[tactic(auto, using(crate::proofs::FirstWord::only_word))]
