@@ -11,6 +11,7 @@ use crate::verb_table::verb_help;
 use explain_words::{Call, File, Words};
 use gr_base::Memory;
 use gr_outside::{Shelf, Sink};
+use real_outside::Cause;
 use std::alloc::Global;
 
 /// The status if a file couldn't be read.
@@ -40,6 +41,20 @@ impl Telling<'_> {
             words.report(alloc, self.ended.status)
         } else {
             words.finish(alloc)
+        }
+    }
+
+    // What a call's files explain.
+    fn explained(
+        self,
+        alloc: Global,
+        call: &Call<'_, '_>,
+        files: &[File<'_>],
+    ) -> Result<Vec<u8>, Memory> {
+        if self.is_json {
+            call.reported(alloc, files)
+        } else {
+            call.explained(alloc, files)
         }
     }
 
@@ -150,10 +165,12 @@ fn explanation<F: Shelf + Reasons + Drop, O: Sink + Reasons>(
 fn usage_text(alloc: Global, telling: Telling<'_>) -> Result<Vec<u8>, Memory> {
     let mut out = Words::new(alloc);
     explain_misused(telling.words, telling.begins(), &mut out);
-    if out.finish(alloc)?.is_empty() {
-        return fault_text(alloc, telling, &[]);
+    if !out.finish(alloc)?.is_empty() {
+        return telling.text(alloc, &out);
     }
-    telling.text(alloc, &out)
+    let usage = usage_of(telling.words);
+    let call = Call::new(alloc, telling.ended.status, usage, telling.words)?;
+    telling.explained(alloc, &call, &[])
 }
 
 // The warnings of a call that did its work.
@@ -247,7 +264,7 @@ fn read_reason<F: Shelf + Reasons + Drop>(
     shelf: &StreamShelf<F>,
 ) -> Result<Vec<u8>, Memory> {
     match shelf.input_error() {
-        Some(error) => match format!(in alloc; "{error}") {
+        Some(error) => match format!(in alloc; "{}", Cause(error)) {
             Ok(reason) => telling.sentence(alloc, "standard input: ", reason.as_str(), ""),
             Err(_) => Err(Memory),
         },
@@ -284,11 +301,7 @@ fn fault_text(alloc: Global, telling: Telling<'_>, read: &[ReadFile]) -> Result<
             }
         }
     }
-    if telling.is_json {
-        call.reported(alloc, &files)
-    } else {
-        call.explained(alloc, &files)
-    }
+    telling.explained(alloc, &call, &files)
 }
 
 // The words of a call, with the name of the stream in the place of `-`.

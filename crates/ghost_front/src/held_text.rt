@@ -42,6 +42,7 @@ impl<E: Sink> Sink for HeldText<'_, E> {
 
     ghost waiting = { λ _. 0 };
 
+    #[tactic(auto, using(crate::proofs::HeldText::text_added, crate::proofs::HeldText::same_faults))]
     fn put(&mut self, bytes: &[u8]) -> Result<(), SinkFailed> {
         self.is_used = true;
         if let Some(mut text) = self.text.take() {
@@ -57,8 +58,12 @@ impl<E: Sink> Sink for HeldText<'_, E> {
         Ok(())
     }
 
+    #[tactic(auto, using(crate::proofs::HeldText::mark_of_none, crate::proofs::HeldText::mark_of_sink))]
     fn mark(&self) -> usize {
-        if self.is_used { 0 } else { self.sink.mark() }
+        if self.is_used {
+            return 0;
+        }
+        self.sink.mark()
     }
 }
 

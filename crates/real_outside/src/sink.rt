@@ -74,6 +74,7 @@ impl<W: Write + Drop> RealSink<W> {
           waiting = self.old.waiting ++ bytes.now;
           put = min (self.old.put + length bytes.now) (2 ^ 64 - 1);
         } }
+        ensures few_wait { result ≡ true → length self.new.waiting ≤ most_waiting }
         ensures left { result ≡ false → self.new ≡ self.old }
     {
         if bytes.len() > ROOM - self.waiting.len() {
@@ -125,6 +126,21 @@ impl<W: Write + Drop> RealSink<W> {
         }
     }
 
+    // Passes the waiting bytes to the writer, and then takes others.
+    fn hand_on_and_put(&mut self, bytes: &[u8]) -> Result<(), SinkFailed>
+        ensures taken { OnOk result (Takes self.old self.new bytes.now) }
+        ensures part { OnErr result (TakesLess self.old self.new bytes.now) }
+        ensures few_wait { length self.new.waiting ≤ most_waiting }
+        ensures calm { OnOk result (self.new.faults ≡ self.old.faults) }
+        ensures failed { OnErr result (Rose self.old.faults self.new.faults) }
+        ensures count { self.old.faults ≤ self.new.faults }
+    {
+        match self.hand_on() {
+            Ok(()) => self.put_first(bytes),
+            Err(error) => Err(error),
+        }
+    }
+
     // Counts a failure, and keeps its cause.
     #[tactic(auto, using(gr_base::proofs::Counts::rose_by_one))]
     fn fail(&mut self, error: Error) -> SinkFailed
@@ -157,10 +173,7 @@ impl<W: Write + Drop> Sink for RealSink<W> {
         if self.holds(bytes) {
             return Ok(());
         }
-        match self.hand_on() {
-            Ok(()) => self.put_first(bytes),
-            Err(error) => Err(error),
-        }
+        self.hand_on_and_put(bytes)
     }
 
     /// Passes the waiting bytes to the writer, and flushes it. Bytes that it doesn't take keep waiting.
