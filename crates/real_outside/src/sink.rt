@@ -93,6 +93,7 @@ impl<W: Write + Drop> RealSink<W> {
         ensures nothing_waits { OnOk result (self.new.waiting ≡ []) }
         ensures few_wait { length self.new.waiting ≤ most_waiting }
         ensures put { self.new.put ≡ self.old.put }
+        ensures most_put { self.new.put ≤ 2 ^ 64 - 1 }
         ensures calm { OnOk result (self.new.faults ≡ self.old.faults) }
         ensures failed { OnErr result (Rose self.old.faults self.new.faults) }
         ensures count { self.old.faults ≤ self.new.faults }
