@@ -27,21 +27,21 @@ const USUAL_BLOCK_LOG: u8 = 9;
 
 /// What a file of a call is to be.
 #[derive(Clone, Copy)]
-pub enum Kind {
+pub enum FileKind {
     Object,
     Source,
     Inputs,
     Assembly,
 }
 
-impl Kind {
+impl FileKind {
     // The kind of file that a word of a verb's line names.
-    fn named(word: &str) -> Option<Kind> {
+    fn named(word: &str) -> Option<FileKind> {
         match word {
-            "OBJ" => Some(Kind::Object),
-            "SRC" => Some(Kind::Source),
-            "INPUT" => Some(Kind::Inputs),
-            "TEXT" => Some(Kind::Assembly),
+            "OBJ" => Some(FileKind::Object),
+            "SRC" => Some(FileKind::Source),
+            "INPUT" => Some(FileKind::Inputs),
+            "TEXT" => Some(FileKind::Assembly),
             _ => None,
         }
     }
@@ -51,10 +51,10 @@ impl Kind {
         ensures { result ≤ 67108864 }
     {
         match self {
-            Kind::Object => 33_554_432,
-            Kind::Source => 1_048_576,
-            Kind::Inputs => 67_108_864,
-            Kind::Assembly => 67_108_864,
+            FileKind::Object => 33_554_432,
+            FileKind::Source => 1_048_576,
+            FileKind::Inputs => 67_108_864,
+            FileKind::Assembly => 67_108_864,
         }
     }
 }
@@ -64,7 +64,7 @@ impl Kind {
 #[derive(Clone, Copy)]
 pub struct File<'a> {
     pub name: &'a str,
-    pub kind: Kind,
+    pub kind: FileKind,
     pub bytes: &'a [u8],
 }
 
@@ -111,23 +111,23 @@ impl<'a, 'b> Call<'a, 'b> {
     }
 
     /// What the file in a place is to be, if the fault may be there, or if a call that did its work may have warnings of it.
-    pub fn kind_at(&self, place: usize) -> Option<Kind>
+    pub fn kind_at(&self, place: usize) -> Option<FileKind>
         ensures { IfSome result (MayHaveFault self.now) }
     {
         let mut places = self.usage.split(" ").skip(1);
         let repeats = is_word_of(self.usage, b"..");
-        let kind = Kind::named(places.nth(if repeats { place % 2 } else { place })?)?;
+        let kind = FileKind::named(places.nth(if repeats { place % 2 } else { place })?)?;
         if self.is_read(kind) { Some(kind) } else { None }
     }
 
     // Whether files of a kind are read again.
-    fn is_read(&self, kind: Kind) -> bool
+    fn is_read(&self, kind: FileKind) -> bool
         ensures { result ≡ true → MayHaveFault self.now kind }
     {
         match self.status {
-            6 | 7 | 13 => matches!(kind, Kind::Object),
-            8 => matches!(kind, Kind::Source),
-            12 => matches!(kind, Kind::Assembly),
+            6 | 7 | 13 => matches!(kind, FileKind::Object),
+            8 => matches!(kind, FileKind::Source),
+            12 => matches!(kind, FileKind::Assembly),
             9 | 11 => true,
             0 => self.is_warned(kind),
             _ => false,
@@ -135,14 +135,14 @@ impl<'a, 'b> Call<'a, 'b> {
     }
 
     // Whether a file of a call that did its work may have warnings.
-    fn is_warned(&self, kind: Kind) -> bool
+    fn is_warned(&self, kind: FileKind) -> bool
         ensures { result ≡ true → MayHaveWarnings kind }
     {
         match kind {
-            Kind::Source => is_word_of("compile eval", self.verb().as_bytes()),
-            Kind::Inputs => is_word_of("eval run trace", self.verb().as_bytes()),
-            Kind::Object => false,
-            Kind::Assembly => false,
+            FileKind::Source => is_word_of("compile eval", self.verb().as_bytes()),
+            FileKind::Inputs => is_word_of("eval run trace", self.verb().as_bytes()),
+            FileKind::Object => false,
+            FileKind::Assembly => false,
         }
     }
 
@@ -243,7 +243,7 @@ impl<'a, 'b> Call<'a, 'b> {
     // The first inputs that don't fit the file before them.
     fn explain_pairs(&self, alloc: Global, files: &[File<'_>], out: &mut Words) {
         for (first, second) in files.iter().zip(files.iter().skip(1)) {
-            if out.is_empty() && matches!(second.kind, Kind::Inputs) {
+            if out.is_empty() && matches!(second.kind, FileKind::Inputs) {
                 if let Some(wants) = self.variables_of(alloc, first) {
                     explain_inputs(alloc, second.name, second.bytes, &wants, out);
                 }
@@ -255,8 +255,8 @@ impl<'a, 'b> Call<'a, 'b> {
         ensures { IfSome result (λ wants. AreVariables wants.items) }
     {
         match file.kind {
-            Kind::Object => variables_of_object(alloc, file.bytes),
-            Kind::Source => variables_of_source(alloc, file.bytes, self.has_procs()),
+            FileKind::Object => variables_of_object(alloc, file.bytes),
+            FileKind::Source => variables_of_source(alloc, file.bytes, self.has_procs()),
             _ => None,
         }
     }
@@ -267,10 +267,10 @@ fn warn_of(alloc: Global, file: &File<'_>, out: &mut Words) {
     let name = file.name;
     let text = file.bytes;
     match file.kind {
-        Kind::Inputs => warn_of_inputs(alloc, name, text, out),
-        Kind::Source => warn_of_source(alloc, name, text, out),
-        Kind::Object => {}
-        Kind::Assembly => {}
+        FileKind::Inputs => warn_of_inputs(alloc, name, text, out),
+        FileKind::Source => warn_of_source(alloc, name, text, out),
+        FileKind::Object => {}
+        FileKind::Assembly => {}
     }
 }
 

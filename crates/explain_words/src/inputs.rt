@@ -3,7 +3,7 @@
 ghost use Rattle.std.specs.Prelude.{IfSome};
 ghost use Rattle.gr_word.specs.Prelude.{AreVariables};
 
-use crate::calls::Kind;
+use crate::calls::FileKind;
 use crate::json_faults::{JsonFault, json_fault, unread_at};
 use crate::looks::put_other_kind;
 use crate::members::{Described, ValueKind, described_member, item_at, member_at};
@@ -121,7 +121,7 @@ impl Given<'_> {
     }
 
     fn no_json(&self, alloc: Global, out: &mut Words) {
-        if put_other_kind(self.source.name, Kind::Inputs, self.source.text, out) {
+        if put_other_kind(self.source.name, FileKind::Inputs, self.source.text, out) {
             return;
         }
         match json_fault(alloc, self.source.text) {

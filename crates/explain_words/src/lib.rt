@@ -46,6 +46,6 @@ mod warned_tokens;
 mod warnings;
 mod words;
 
-pub use calls::{Call, File, Kind};
+pub use calls::{Call, File, FileKind};
 pub use expanding::{WithoutCalls, without_calls};
 pub use words::Words;

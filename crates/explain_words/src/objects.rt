@@ -2,7 +2,7 @@
 
 ghost use Rattle.std.specs.Prelude.{◌≤◌, length};
 
-use crate::calls::Kind;
+use crate::calls::FileKind;
 use crate::fields::field_at;
 use crate::looks::looks_like;
 use crate::words::Words;
@@ -71,10 +71,10 @@ fn place_in(bytes: &[u8], at: usize) -> usize
 // What a file without the magic may be.
 fn of_head(bytes: &[u8]) -> &'static str {
     match looks_like(bytes) {
-        Some(Kind::Assembly) =>
+        Some(FileKind::Assembly) =>
             "It is an assembly text: the verb `asm` makes an object file of it.",
-        Some(Kind::Source) => "It is a source: the verb `compile` makes an object file of it.",
-        Some(Kind::Inputs) => "It looks like inputs: the object comes first, then its inputs.",
+        Some(FileKind::Source) => "It is a source: the verb `compile` makes an object file of it.",
+        Some(FileKind::Inputs) => "It looks like inputs: the object comes first, then its inputs.",
         _ => "Object files are made by the verbs `compile`, `asm` and `sample`.",
     }
 }
