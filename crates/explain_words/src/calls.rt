@@ -25,6 +25,9 @@ use std::marker::Model;
 /// The logarithm of a block's words for which no option says a number.
 const USUAL_BLOCK_LOG: u8 = 9;
 
+/// The limit of cycles and of iterations without an option.
+const USUAL_LIMIT: u64 = 1_000_000_000;
+
 /// What a file of a call is to be.
 #[derive(Clone, Copy)]
 pub enum FileKind {
@@ -157,15 +160,45 @@ impl<'a, 'b> Call<'a, 'b> {
         self.sorted.has("--procs") || self.verb() == "expand"
     }
 
-    // Whether the program has to have room.
+    // For which target the program is compiled, if it is.
     fn room(&self) -> Room {
-        if self.verb() != "compile" {
+        if !is_word_of(
+            "compile layout listing profile test",
+            self.verb().as_bytes(),
+        ) {
             return Room::Unasked;
         }
-        Room::Blocks(match self.sorted.value("--block-log") {
+        let block_log = match self.sorted.value("--block-log") {
             Some(log) => log.parse::<u8>().unwrap_or(USUAL_BLOCK_LOG),
             None => USUAL_BLOCK_LOG,
-        })
+        };
+        Room::Blocks {
+            block_log,
+            is_fast: self.sorted.has("--fast"),
+        }
+    }
+
+    // The number that an option gives, or what it is without the option.
+    fn number_of(&self, option: &str, usual: u64) -> u64 {
+        match self.sorted.value(option) {
+            Some(number) => number.parse::<u64>().unwrap_or(usual),
+            None => usual,
+        }
+    }
+
+    // What to do about a run or an evaluation that reached its limit.
+    fn put_spent(&self, out: &mut Words) {
+        if self.verb() == "eval" {
+            out.fill(
+                "The loops reached the limit of {} iterations. Raise it with --turns N, or check for an endless loop.\n",
+                &[self.number_of("--turns", USUAL_LIMIT)],
+            )
+        } else {
+            out.fill(
+                "The run reached the limit of {} cycles. Raise it with --cycles N, or check for an endless loop.\n",
+                &[self.number_of("--cycles", USUAL_LIMIT)],
+            )
+        }
     }
 
     /// What the fault means, by the files that were read again: nothing where nothing can be said. If the call did its work,
@@ -192,15 +225,11 @@ impl<'a, 'b> Call<'a, 'b> {
     fn explain(&self, alloc: Global, files: &[File<'_>], out: &mut Words) {
         match self.status {
             0 => for file in files {
-                warn_of(alloc, file, out);
+                warn_of(alloc, file, self.sorted.has("--fast"), out);
             },
             2 => explain_usage(self.usage, self.words, &self.sorted, out),
             9 => self.explain_pairs(alloc, files, out),
-            10 => out.line(if self.verb() == "eval" {
-                "The loops took all turns that they had. Give them more by --turns N, or see that each loop ends."
-            } else {
-                "The run took all cycles that it had. Give it more by --cycles N, or see that each loop ends."
-            }),
+            10 => self.put_spent(out),
             13 => match cores_of(alloc, files) {
                 Ok(cores) => explain_bus(&cores, out),
                 Err(_) => out.starve(),
@@ -233,7 +262,7 @@ impl<'a, 'b> Call<'a, 'b> {
             _ => if bytes.len() > file.kind.most_bytes() {
                 out.name(name);
                 out.fill(
-                    " has more than {} bytes, and none that long can be right here.\n",
+                    " has more than {} bytes, which is the limit for such a file.\n",
                     &[file.kind.most_bytes() as u64],
                 );
             },
@@ -263,12 +292,12 @@ impl<'a, 'b> Call<'a, 'b> {
 }
 
 // Warns of what a file of a call that did its work may not mean.
-fn warn_of(alloc: Global, file: &File<'_>, out: &mut Words) {
+fn warn_of(alloc: Global, file: &File<'_>, is_fast: bool, out: &mut Words) {
     let name = file.name;
     let text = file.bytes;
     match file.kind {
         FileKind::Inputs => warn_of_inputs(alloc, name, text, out),
-        FileKind::Source => warn_of_source(alloc, name, text, out),
+        FileKind::Source => warn_of_source(alloc, name, text, is_fast, out),
         FileKind::Object => {}
         FileKind::Assembly => {}
     }

@@ -24,7 +24,10 @@ mod habits;
 mod heads;
 mod inputs;
 mod json_faults;
+mod line_forms;
+mod line_orders;
 mod looks;
+mod loops;
 mod members;
 mod nearest;
 mod objects;
@@ -44,6 +47,7 @@ mod usage;
 mod wanted;
 mod warned_tokens;
 mod warnings;
+mod weights;
 mod words;
 
 pub use calls::{Call, File, FileKind};

@@ -73,24 +73,24 @@ pub(crate) fn of_kinds(wanted: FileKind, given: FileKind) -> Option<&'static str
         (FileKind::Source, FileKind::Source) => None,
         (FileKind::Inputs, FileKind::Inputs) => None,
         (FileKind::Assembly, FileKind::Assembly) => None,
-        (FileKind::Object, FileKind::Inputs) => Some("The object comes first, then its inputs."),
-        (FileKind::Source, FileKind::Inputs) => Some("The source comes first, then its inputs."),
+        (FileKind::Object, FileKind::Inputs) => Some("Name the object first, then its inputs."),
+        (FileKind::Source, FileKind::Inputs) => Some("Name the source first, then its inputs."),
         (FileKind::Assembly, FileKind::Inputs) => Some(
-            "The verbs `run` and `trace` take inputs, after an object file.",
+            "The commands `run` and `trace` take inputs, after an object file.",
         ),
         (FileKind::Inputs, FileKind::Object) => Some(
-            "The object comes first, then its inputs: `{\"n\":3,\"a\":[1,2,3]}`.",
+            "Name the object first, then its inputs, such as `{\"n\":3,\"a\":[1,2,3]}`.",
         ),
         (FileKind::Inputs, FileKind::Source) => Some(
-            "The source comes first, then its inputs: `{\"n\":3,\"a\":[1,2,3]}`.",
+            "Name the source first, then its inputs, such as `{\"n\":3,\"a\":[1,2,3]}`.",
         ),
-        (_, FileKind::Source) => Some("The verb `compile` makes an object file of it."),
-        (_, FileKind::Assembly) => Some("The verb `asm` makes an object file of it."),
+        (_, FileKind::Source) => Some("The command `compile` makes an object file from it."),
+        (_, FileKind::Assembly) => Some("The command `asm` makes an object file from it."),
         (FileKind::Source, FileKind::Object) => Some(
-            "The verbs `check`, `run` and `dis` take an object file.",
+            "The commands `check`, `run` and `dis` take an object file.",
         ),
         (FileKind::Assembly, FileKind::Object) => Some(
-            "The verb `dis` writes the assembly text of an object file.",
+            "The command `dis` writes the assembly text of an object file.",
         ),
     }
 }
