@@ -7,6 +7,7 @@ ghost use Rattle.explain_words.specs.Plain.{IsPlain};
 
 use crate::assembly::explain_assembly;
 use crate::buses::{Core, explain_bus};
+use crate::cases::explain_cases;
 use crate::duplicates::warn_of_inputs;
 use crate::inputs::{explain_inputs, variables_of_object, variables_of_source};
 use crate::looks::put_other_kind;
@@ -35,6 +36,7 @@ pub enum FileKind {
     Source,
     Inputs,
     Assembly,
+    Cases,
 }
 
 impl FileKind {
@@ -45,6 +47,7 @@ impl FileKind {
             "SRC" => Some(FileKind::Source),
             "INPUT" => Some(FileKind::Inputs),
             "TEXT" => Some(FileKind::Assembly),
+            "CASES" => Some(FileKind::Cases),
             _ => None,
         }
     }
@@ -58,6 +61,7 @@ impl FileKind {
             FileKind::Source => 1_048_576,
             FileKind::Inputs => 67_108_864,
             FileKind::Assembly => 67_108_864,
+            FileKind::Cases => 67_108_864,
         }
     }
 }
@@ -146,6 +150,7 @@ impl<'a, 'b> Call<'a, 'b> {
             FileKind::Inputs => is_word_of("eval run trace", self.verb().as_bytes()),
             FileKind::Object => false,
             FileKind::Assembly => false,
+            FileKind::Cases => false,
         }
     }
 
@@ -269,13 +274,33 @@ impl<'a, 'b> Call<'a, 'b> {
         }
     }
 
-    // The first inputs that don't fit the file before them.
+    // The first inputs that don't fit the object or the source that they follow, or a file without cases.
     fn explain_pairs(&self, alloc: Global, files: &[File<'_>], out: &mut Words) {
-        for (first, second) in files.iter().zip(files.iter().skip(1)) {
-            if out.is_empty() && matches!(second.kind, FileKind::Inputs) {
-                if let Some(wants) = self.variables_of(alloc, first) {
-                    explain_inputs(alloc, second.name, second.bytes, &wants, out);
+        let mut program: Option<File<'_>> = None;
+        for file in files {
+            if out.is_empty() {
+                match file.kind {
+                    FileKind::Object => program = Some(*file),
+                    FileKind::Source => program = Some(*file),
+                    FileKind::Inputs => self.explain_given(alloc, program, file, out),
+                    FileKind::Cases => explain_cases(file.name, file.bytes, out),
+                    FileKind::Assembly => {}
                 }
+            }
+        }
+    }
+
+    // Why inputs don't fit a program.
+    fn explain_given(
+        &self,
+        alloc: Global,
+        program: Option<File<'_>>,
+        inputs: &File<'_>,
+        out: &mut Words,
+    ) {
+        if let Some(program) = program {
+            if let Some(wants) = self.variables_of(alloc, &program) {
+                explain_inputs(alloc, inputs.name, inputs.bytes, &wants, out);
             }
         }
     }
@@ -300,6 +325,7 @@ fn warn_of(alloc: Global, file: &File<'_>, is_fast: bool, out: &mut Words) {
         FileKind::Source => warn_of_source(alloc, name, text, is_fast, out),
         FileKind::Object => {}
         FileKind::Assembly => {}
+        FileKind::Cases => {}
     }
 }
 

@@ -17,6 +17,7 @@ mod bytes;
 mod call_faults;
 mod call_habits;
 mod calls;
+mod cases;
 mod duplicates;
 mod expanding;
 mod fields;

@@ -63,6 +63,7 @@ fn name_of(kind: FileKind) -> &'static str {
         FileKind::Source => "a source",
         FileKind::Inputs => "a file of inputs",
         FileKind::Assembly => "an assembly text",
+        FileKind::Cases => "a file of cases",
     }
 }
 
@@ -73,6 +74,9 @@ pub(crate) fn of_kinds(wanted: FileKind, given: FileKind) -> Option<&'static str
         (FileKind::Source, FileKind::Source) => None,
         (FileKind::Inputs, FileKind::Inputs) => None,
         (FileKind::Assembly, FileKind::Assembly) => None,
+        (FileKind::Cases, FileKind::Inputs | FileKind::Cases) => None,
+        (FileKind::Cases, _) => Some("Name the source first, then its cases."),
+        (_, FileKind::Cases) => None,
         (FileKind::Object, FileKind::Inputs) => Some("Name the object first, then its inputs."),
         (FileKind::Source, FileKind::Inputs) => Some("Name the source first, then its inputs."),
         (FileKind::Assembly, FileKind::Inputs) => Some(
