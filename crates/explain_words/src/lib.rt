@@ -52,5 +52,6 @@ mod weights;
 mod words;
 
 pub use calls::{Call, File, FileKind};
+pub use cases::failed_cases;
 pub use expanding::{WithoutCalls, without_calls};
 pub use words::Words;
