@@ -80,7 +80,7 @@ pub(crate) fn of_kinds(wanted: FileKind, given: FileKind) -> Option<&'static str
         (FileKind::Object, FileKind::Inputs) => Some("Name the object first, then its inputs."),
         (FileKind::Source, FileKind::Inputs) => Some("Name the source first, then its inputs."),
         (FileKind::Assembly, FileKind::Inputs) => Some(
-            "The commands `run` and `trace` take inputs, after an object file.",
+            "`run` and `trace` take inputs, after an object file.",
         ),
         (FileKind::Inputs, FileKind::Object) => Some(
             "Name the object first, then its inputs, such as `{\"n\":3,\"a\":[1,2,3]}`.",
@@ -88,13 +88,13 @@ pub(crate) fn of_kinds(wanted: FileKind, given: FileKind) -> Option<&'static str
         (FileKind::Inputs, FileKind::Source) => Some(
             "Name the source first, then its inputs, such as `{\"n\":3,\"a\":[1,2,3]}`.",
         ),
-        (_, FileKind::Source) => Some("The command `compile` makes an object file from it."),
-        (_, FileKind::Assembly) => Some("The command `asm` makes an object file from it."),
+        (_, FileKind::Source) => Some("`compile` makes an object file from it."),
+        (_, FileKind::Assembly) => Some("`asm` makes an object file from it."),
         (FileKind::Source, FileKind::Object) => Some(
-            "The commands `check`, `run` and `dis` take an object file.",
+            "`check`, `run` and `dis` take an object file.",
         ),
         (FileKind::Assembly, FileKind::Object) => Some(
-            "The command `dis` writes the assembly text of an object file.",
+            "`dis` writes the assembly text of an object file.",
         ),
     }
 }

@@ -74,7 +74,7 @@ fn of_head(bytes: &[u8]) -> &'static str {
         Some(FileKind::Assembly) => "It is an assembly text: `asm` makes an object file from it.",
         Some(FileKind::Source) => "It is a source: `compile` makes an object file from it.",
         Some(FileKind::Inputs) => "It looks like inputs: name the object first, then its inputs.",
-        _ => "The commands `compile`, `asm` and `sample` make object files.",
+        _ => "`compile`, `asm` and `sample` make object files.",
     }
 }
 

@@ -35,11 +35,11 @@ pub(crate) fn of_reason(reason: Reason) -> &'static str {
         Reason::JumpOutside => "The target is outside the code.\nCorrect the target.",
         Reason::NoNote => {
             "A note is missing.\nPut a `.note` directly before the instruction at the target. The instruction after a `jmp` or \
-            a `halt` needs one too, unless it is dead code, which you can remove. The command `infer` writes all notes."
+            a `halt` needs one too, unless it is dead code, which you can remove. `infer` writes all notes."
         }
         Reason::NoteTooLow => {
             "A note claims more than is known on a path that reaches it.\nMark the registers that may hold secrets, and claim \
-            only banks that are known on every path. The command `infer` writes the least notes."
+            only banks that are known on every path. `infer` writes the least notes."
         }
         Reason::SecretLoop => {
             "A branch on a secret, or a jump or branch in one of its arms, goes back or to itself, so the number of iterations \

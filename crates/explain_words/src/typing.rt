@@ -93,9 +93,9 @@ impl Tokens<'_> {
         Ok(nearest.found())
     }
 
-    // Says that a name isn't declared, and how it is declared. `end` ends the declaration.
+    // Says that a name is not declared, and how it is declared. `end` ends the declaration.
     fn put_undeclared(&self, alloc: Global, at: usize, end: &str, out: &mut Words) {
-        self.put(at, " isn't declared", out);
+        self.put(at, " is not declared", out);
         if is_word_of(
             "true false TRUE FALSE True False NULL null nil None",
             self.word(at),
@@ -139,7 +139,7 @@ impl Sight<'_> {
         }
     }
 
-    // The first name of the statement that isn't declared, or is used with an index or without one against its declaration.
+    // The first name of the statement that is not declared, or is used with an index or without one against its declaration.
     fn misnamed(&self, alloc: Global, out: &mut Words) {
         for at in self.first..self.end.max(self.first) {
             if self.tokens.is_name(at) && self.is_misnamed(alloc, at, out) {

@@ -113,13 +113,12 @@ impl<'a> Sorted<'a> {
 /// Explains a usage error in the words of a call, the verb first. `usage` is empty if there is no such verb.
 pub(crate) fn explain_usage(usage: &str, words: &[&str], sorted: &Sorted<'_>, out: &mut Words) {
     let Some(verb) = words.first() else {
-        return out.line("ghostrider: missing command; `ghostrider help` lists the commands");
+        return out.line("ghostrider: no verb is given; `ghostrider help` lists the verbs");
     };
     out.say("ghostrider: ");
     if usage.is_empty() {
-        out.say("unknown command ");
         out.name(*verb);
-        return out.line("; `ghostrider help` lists the commands");
+        return out.line(" is not a verb; `ghostrider help` lists the verbs");
     }
     out.name(*verb);
     out.say(": ");
@@ -248,7 +247,7 @@ fn put_places(usage: &str, sorted: &Sorted<'_>, out: &mut Words) {
     let mut given = sorted.placed.iter();
     for place in usage.split(" ").skip(1) {
         if place == ".." {
-            return out.line("this command takes one to eight objects, each followed by its inputs");
+            return out.line("this verb takes one to eight objects, each followed by its inputs");
         }
         if place.starts_with("[") {
             break;
