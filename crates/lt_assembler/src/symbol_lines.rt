@@ -1,15 +1,17 @@
-ghost use Rattle.std.specs.Prelude.{◌≡◌, ◌≤◌, ◌<◌, ◌+◌, ◌*◌, length, map, Some};
-ghost use Rattle.lt_isa.specs.Prelude.{most_banks, most_block_log, most_symbols, blocks_in, total_length, first_free_word, most_length};
-ghost use Rattle.lt_assembler.specs.Faults.{Becomes, Assembles};
-ghost use Rattle.lt_assembler.specs.Reading.{site_read, symbol_read, width, is_new, has_room, symbol_line};
+ghost use Rattle.std.specs.Prelude.{◌≡◌, ◌≤◌, ◌<◌, ◌+◌, ◌-◌, ◌*◌, length, map, Some, Ok, IsTrue};
+ghost use Rattle.gr_word.specs.Prelude.{is_name};
+ghost use Rattle.lt_isa.specs.Prelude.{most_banks, most_block_log, most_symbols, last_bank, blocks_in, total_length, first_free_word, most_length};
+ghost use Rattle.lt_assembler.specs.Faults.{number_or, Becomes, Assembles};
+ghost use Rattle.lt_assembler.specs.Numbers.{number_within};
+ghost use Rattle.lt_assembler.specs.Reading.{site_read, symbol_at, symbol_read, width, is_new, has_room, add_symbol, symbol_line};
 ghost use Rattle.lt_assembler.specs.Seen.{draft_of};
 
 use crate::draft::Draft;
 use crate::faults::Fault;
 use crate::mnemonics::{label_named, same, shape_named};
-use crate::numbers::number_in;
+use crate::numbers::{number_in, u32_in};
 use crate::stages::takes_symbol;
-use gr_word::{Name, Shape, name_fits};
+use gr_word::{Label, Name, Shape, name_fits};
 use lt_isa::limits::{MOST_SYMBOL_WORDS, MOST_SYMBOLS};
 use lt_isa::symbol_places::{blocks_in, first_free, last_bank, most_length};
 use lt_isa::{BankSpec, Profile, Symbol};
@@ -32,6 +34,51 @@ fn word_in_bank(words: u32, block: u32, word: u16) -> u64
     u64::from(block) * u64::from(words) + u64::from(word)
 }
 
+/// The bank of the next symbol, from the last symbol's bank on.
+fn bank_of(banks: &[BankSpec], before: &[Symbol], word: &[u8]) -> Result<u8, Fault>
+    requires { length banks.now ≤ most_banks }
+    ensures { result ≡ number_or (number_within (last_bank before.now) (length banks.now - 1) word.now) }
+{
+    let last = (banks.len() as u64).saturating_sub(1);
+    let bank = number_in(u64::from(last_bank(before)), last, word)?;
+    Ok(bank as u8)
+}
+
+/// The block of the next symbol in its bank.
+fn block_of(banks: &[BankSpec], bank: u8, word: &[u8]) -> Result<u32, Fault>
+    ensures { result ≡ number_or (number_within 0 (blocks_in banks.now bank - 1) word.now) }
+{
+    u32_in(0, blocks_in(banks, bank).saturating_sub(1), word)
+}
+
+/// The first word of the next symbol in its block, of those that are free; a block has `words` words.
+fn word_of(words: u32, before: &[Symbol], bank: u8, block: u32, word: &[u8]) -> Result<u16, Fault>
+    requires { words ≤ 512 }
+    ensures { result ≡ number_or (number_within (first_free_word words before.now bank block) (words - 1) word.now) }
+{
+    let free = first_free(words, before, bank, block);
+    let last = u64::from(words).saturating_sub(1);
+    let number = number_in(free, last, word)?;
+    Ok(number as u16)
+}
+
+/// The length of a symbol that begins at word number `start` of its bank; a block has `words` words.
+fn length_of(
+    words: u32,
+    banks: &[BankSpec],
+    shape: Shape,
+    bank: u8,
+    start: u64,
+    word: &[u8],
+) -> Result<u32, Fault>
+    requires { words ≤ 512 }
+    ensures { result ≡ number_or (number_within 1 (most_length words banks.now shape bank start) word.now) }
+{
+    let most = most_length(words, banks, shape, bank, start);
+    let length = number_in(1, most, word)?;
+    Ok(length as u32)
+}
+
 /// The place of the next symbol after those before, from four words; a block has `words` words.
 #[tactic(auto, unfolding(crate::specs::Reading::site_read))]
 fn site_of(
@@ -47,16 +94,11 @@ fn site_of(
 {
     match site {
         [bank, block, word, length] => {
-            let last = (banks.len() as u64).saturating_sub(1);
-            let bank = number_in(u64::from(last_bank(before)), last, bank)? as u8;
-            let last = u64::from(blocks_in(banks, bank)).saturating_sub(1);
-            let block = number_in(0, last, block)? as u32;
-            let free = first_free(words, before, bank, block);
-            let last = u64::from(words).saturating_sub(1);
-            let word = number_in(free, last, word)? as u16;
+            let bank = bank_of(banks, before, bank)?;
+            let block = block_of(banks, bank, block)?;
+            let word = word_of(words, before, bank, block, word)?;
             let start = word_in_bank(words, block, word);
-            let most = most_length(words, banks, shape, bank, start);
-            let length = number_in(1, most, length)? as u32;
+            let length = length_of(words, banks, shape, bank, start, length)?;
             Ok(Site {
                 bank,
                 block,
@@ -66,6 +108,28 @@ fn site_of(
         }
         _ => Err(Fault::WrongForm),
     }
+}
+
+/// The symbol with this name at a place.
+fn symbol_at(
+    alloc: Global,
+    name: &[u8],
+    label: Label,
+    shape: Shape,
+    site: Site,
+) -> Result<Symbol, Fault>
+    requires { IsTrue (is_name name.now) }
+    ensures { Assembles result (Ok (symbol_at name.now label shape site)) }
+{
+    Ok(Symbol {
+        name: Name::new(alloc, name)?,
+        label,
+        shape,
+        bank: site.bank,
+        block: site.block,
+        word: site.word,
+        length: site.length,
+    })
 }
 
 /// The next symbol after those before, from the words after the first; a block has `words` words.
@@ -89,15 +153,7 @@ fn symbol_of(
             let label = label_named(label)?;
             let shape = shape_named(shape)?;
             let site = site_of(words, banks, before, shape, site)?;
-            Ok(Symbol {
-                name: Name::new(alloc, name)?,
-                label,
-                shape,
-                bank: site.bank,
-                block: site.block,
-                word: site.word,
-                length: site.length,
-            })
+            symbol_at(alloc, name, label, shape, site)
         }
         _ => Err(Fault::WrongForm),
     }
@@ -144,6 +200,20 @@ fn is_new(symbols: &[Symbol], name: &Name) -> bool
         .all(|symbol| !same(symbol.name.bytes(), name.bytes()))
 }
 
+/// Adds a symbol, unless its name is repeated or there is no room for it.
+fn add_symbol(draft: &mut Draft, symbol: Symbol) -> Result<(), Fault>
+    ensures { Becomes result (draft_of draft.new) (add_symbol symbol (draft_of draft.old)) }
+{
+    if !is_new(&draft.symbols, &symbol.name) {
+        return Err(Fault::RepeatedName);
+    }
+    if !has_room(&draft.symbols, &symbol) {
+        return Err(Fault::Limit);
+    }
+    draft.symbols.push(symbol)?;
+    Ok(())
+}
+
 /// A symbol's line.
 #[tactic(auto, unfolding(crate::specs::Reading::symbol_line))]
 pub fn symbol_line(alloc: Global, draft: &mut Draft, words: &[&[u8]]) -> Result<(), Fault>
@@ -156,12 +226,5 @@ pub fn symbol_line(alloc: Global, draft: &mut Draft, words: &[&[u8]]) -> Result<
         return Err(Fault::WrongForm);
     };
     let symbol = symbol_of(alloc, width(&profile), &draft.banks, &draft.symbols, words)?;
-    if !is_new(&draft.symbols, &symbol.name) {
-        return Err(Fault::RepeatedName);
-    }
-    if !has_room(&draft.symbols, &symbol) {
-        return Err(Fault::Limit);
-    }
-    draft.symbols.push(symbol)?;
-    Ok(())
+    add_symbol(draft, symbol)
 }
