@@ -80,11 +80,14 @@ object_line words d = do
   Ok (record d { profile = Some profile })
 
 -- bank number `index`
-unfoldable pub bank_read : ℕ → List Word → Result BankSpec Fault
-bank_read index (blocks ∷ latency ∷ []) = do
+abbrev pub bank_with : ℕ → (blocks latency : Word) → Result BankSpec Fault
+bank_with index blocks latency = do
   blocks ← number_or (number_within 1 (most_blocks index) blocks)
   latency ← number_or (number_within 1 most_latency latency)
   Ok (record { blocks = blocks; latency = latency })
+
+unfoldable pub bank_read : ℕ → List Word → Result BankSpec Fault
+bank_read index (blocks ∷ latency ∷ []) = bank_with index blocks latency
 bank_read index _ = Err WrongForm
 
 unfoldable pub bank_line : List Word → Draft → Result Draft Fault
@@ -95,13 +98,17 @@ bank_line words d = do
   Ok (record d { banks = d.banks ++ bank ∷ [] })
 
 -- the place of a symbol, from four words
-unfoldable pub site_read : ℕ → List BankSpec → List Symbol → Shape → List Word → Result Site Fault
-site_read w banks before shape (bank ∷ block ∷ word ∷ size ∷ []) = do
+abbrev pub site_at_read : ℕ → List BankSpec → List Symbol → Shape → (bank block word size : Word) → Result Site Fault
+site_at_read w banks before shape bank block word size = do
   bank ← number_or (number_within (last_bank before) (length banks - 1) bank)
   block ← number_or (number_within 0 (blocks_in banks bank - 1) block)
   word ← number_or (number_within (first_free_word w before bank block) (w - 1) word)
   size ← number_or (number_within 1 (most_length w banks shape bank (block * w + word)) size)
   Ok (record { bank = bank; block = block; word = word; length = size })
+
+unfoldable pub site_read : ℕ → List BankSpec → List Symbol → Shape → List Word → Result Site Fault
+site_read w banks before shape (bank ∷ block ∷ word ∷ size ∷ []) =
+    site_at_read w banks before shape bank block word size
 site_read w banks before shape _ = Err WrongForm
 
 abbrev pub four : List Word → Bool
@@ -119,14 +126,18 @@ symbol_at name label shape site = record {
   length = site.length;
 }
 
--- the next symbol after those before, if a block has w words
-unfoldable pub symbol_read : ℕ → List BankSpec → List Symbol → List Word → Result Symbol Fault
-symbol_read w banks before (name ∷ label ∷ shape ∷ site) = do
+-- the next symbol after those before, from its name, its label, its shape and the words after them, if a block has w
+-- words
+abbrev pub symbol_with : ℕ → List BankSpec → List Symbol → (name label shape : Word) → List Word → Result Symbol Fault
+symbol_with w banks before name label shape site = do
   whole ← unless_not WrongForm (four site && is_name name)
   label ← form (label_named label)
   shape ← form (shape_named shape)
   site ← site_read w banks before shape site
   Ok (symbol_at name label shape site)
+
+unfoldable pub symbol_read : ℕ → List BankSpec → List Symbol → List Word → Result Symbol Fault
+symbol_read w banks before (name ∷ label ∷ shape ∷ site) = symbol_with w banks before name label shape site
 symbol_read w banks before _ = Err WrongForm
 
 -- the number of words of a block

@@ -1,7 +1,7 @@
 ghost use Rattle.std.specs.Prelude.{◌≡◌, ◌≤◌, map, IfOk};
 ghost use Rattle.lt_isa.specs.Prelude.{most_block_log};
 ghost use Rattle.lt_assembler.specs.Faults.{Becomes};
-ghost use Rattle.lt_assembler.specs.Reading.{is_version, cycles_read, window_read, versioned_read, profile_read, object_line, bank_read, bank_line};
+ghost use Rattle.lt_assembler.specs.Reading.{is_version, cycles_read, window_read, versioned_read, profile_read, object_line, bank_with, bank_read, bank_line};
 ghost use Rattle.lt_assembler.specs.Seen.{draft_of};
 
 use crate::draft::Draft;
@@ -129,17 +129,22 @@ pub fn object_line(draft: &mut Draft, words: &[&[u8]]) -> Result<(), Fault>
     Ok(())
 }
 
+/// Bank number `index`, with the number of its blocks and its latency.
+fn bank_with(index: usize, blocks: &[u8], latency: &[u8]) -> Result<BankSpec, Fault>
+    ensures { result ≡ bank_with index blocks.now latency.now }
+{
+    let blocks = u32_in(1, most_blocks(index), blocks)?;
+    let latency = u32_in(1, MOST_LATENCY, latency)?;
+    Ok(BankSpec { blocks, latency })
+}
+
 /// Bank number `index`, from the words after the first.
 #[tactic(auto, unfolding(crate::specs::Reading::bank_read))]
 fn bank_of(index: usize, words: &[&[u8]]) -> Result<BankSpec, Fault>
     ensures { result ≡ bank_read index (map (λ w. w.now) words.now) }
 {
     match words {
-        [blocks, latency] => {
-            let blocks = u32_in(1, most_blocks(index), blocks)?;
-            let latency = u32_in(1, MOST_LATENCY, latency)?;
-            Ok(BankSpec { blocks, latency })
-        }
+        [blocks, latency] => bank_with(index, blocks, latency),
         _ => Err(Fault::WrongForm),
     }
 }

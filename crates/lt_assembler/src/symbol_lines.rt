@@ -3,7 +3,7 @@ ghost use Rattle.gr_word.specs.Prelude.{is_name};
 ghost use Rattle.lt_isa.specs.Prelude.{most_banks, most_block_log, most_symbols, last_bank, blocks_in, total_length, first_free_word, most_length};
 ghost use Rattle.lt_assembler.specs.Faults.{number_or, Becomes, Assembles};
 ghost use Rattle.lt_assembler.specs.Numbers.{number_within};
-ghost use Rattle.lt_assembler.specs.Reading.{site_read, symbol_at, symbol_read, width, is_new, has_room, add_symbol, symbol_line};
+ghost use Rattle.lt_assembler.specs.Reading.{site_at_read, site_read, symbol_at, symbol_with, symbol_read, width, is_new, has_room, add_symbol, symbol_line};
 ghost use Rattle.lt_assembler.specs.Seen.{draft_of};
 
 use crate::draft::Draft;
@@ -79,33 +79,55 @@ fn length_of(
     Ok(length as u32)
 }
 
-/// The place of the next symbol after those before, from four words; a block has `words` words.
-#[tactic(auto, unfolding(crate::specs::Reading::site_read))]
-fn site_of(
+/// What is read before a symbol's line.
+#[derive(Clone, Copy)]
+struct Before<'a> {
+    /// The number of words of a block.
     words: u32,
-    banks: &[BankSpec],
-    before: &[Symbol],
+    banks: &'a [BankSpec],
+    symbols: &'a [Symbol],
+    ghost small_blocks: { words ≤ 512 },
+    ghost few_banks: { length banks.now ≤ most_banks },
+}
+
+/// The place of the next symbol, from four words.
+fn site_at(
+    before: Before<'_>,
     shape: Shape,
-    site: &[&[u8]],
+    bank: &[u8],
+    block: &[u8],
+    word: &[u8],
+    length: &[u8],
 ) -> Result<Site, Fault>
-    requires small { words ≤ 512 }
-    requires few { length banks.now ≤ most_banks }
-    ensures { result ≡ site_read words banks.now before.now shape (map (λ w. w.now) site.now) }
+    ensures { result ≡ site_at_read before.entry.words before.entry.banks.now before.entry.symbols.now shape
+        bank.now block.now word.now length.now }
+{
+    let Before {
+        words,
+        banks,
+        symbols,
+    } = before;
+    let bank = bank_of(banks, symbols, bank)?;
+    let block = block_of(banks, bank, block)?;
+    let word = word_of(words, symbols, bank, block, word)?;
+    let start = word_in_bank(words, block, word);
+    let length = length_of(words, banks, shape, bank, start, length)?;
+    Ok(Site {
+        bank,
+        block,
+        word,
+        length,
+    })
+}
+
+/// The place of the next symbol, from the words after its shape.
+#[tactic(auto, unfolding(crate::specs::Reading::site_read))]
+fn site_of(before: Before<'_>, shape: Shape, site: &[&[u8]]) -> Result<Site, Fault>
+    ensures { result ≡ site_read before.entry.words before.entry.banks.now before.entry.symbols.now shape
+        (map (λ w. w.now) site.now) }
 {
     match site {
-        [bank, block, word, length] => {
-            let bank = bank_of(banks, before, bank)?;
-            let block = block_of(banks, bank, block)?;
-            let word = word_of(words, before, bank, block, word)?;
-            let start = word_in_bank(words, block, word);
-            let length = length_of(words, banks, shape, bank, start, length)?;
-            Ok(Site {
-                bank,
-                block,
-                word,
-                length,
-            })
-        }
+        [bank, block, word, length] => site_at(before, shape, bank, block, word, length),
         _ => Err(Fault::WrongForm),
     }
 }
@@ -132,29 +154,35 @@ fn symbol_at(
     })
 }
 
-/// The next symbol after those before, from the words after the first; a block has `words` words.
-#[tactic(auto, unfolding(crate::specs::Reading::symbol_read))]
-fn symbol_of(
+/// The next symbol, from its name, its label, its shape and the words after them.
+fn symbol_with(
     alloc: Global,
-    words: u32,
-    banks: &[BankSpec],
-    before: &[Symbol],
-    line: &[&[u8]],
+    before: Before<'_>,
+    name: &[u8],
+    label: &[u8],
+    shape: &[u8],
+    site: &[&[u8]],
 ) -> Result<Symbol, Fault>
-    requires small { words ≤ 512 }
-    requires few { length banks.now ≤ most_banks }
-    ensures { Assembles result (symbol_read words banks.now before.now (map (λ w. w.now) line.now)) }
+    ensures { Assembles result (symbol_with before.entry.words before.entry.banks.now before.entry.symbols.now
+        name.now label.now shape.now (map (λ w. w.now) site.now)) }
+{
+    if site.len() != 4 || !name_fits(name) {
+        return Err(Fault::WrongForm);
+    }
+    let label = label_named(label)?;
+    let shape = shape_named(shape)?;
+    let site = site_of(before, shape, site)?;
+    symbol_at(alloc, name, label, shape, site)
+}
+
+/// The next symbol, from the words after the first.
+#[tactic(auto, unfolding(crate::specs::Reading::symbol_read))]
+fn symbol_of(alloc: Global, before: Before<'_>, line: &[&[u8]]) -> Result<Symbol, Fault>
+    ensures { Assembles result (symbol_read before.entry.words before.entry.banks.now before.entry.symbols.now
+        (map (λ w. w.now) line.now)) }
 {
     match line {
-        [name, label, shape, site @ ..] => {
-            if site.len() != 4 || !name_fits(name) {
-                return Err(Fault::WrongForm);
-            }
-            let label = label_named(label)?;
-            let shape = shape_named(shape)?;
-            let site = site_of(words, banks, before, shape, site)?;
-            symbol_at(alloc, name, label, shape, site)
-        }
+        [name, label, shape, site @ ..] => symbol_with(alloc, before, name, label, shape, site),
         _ => Err(Fault::WrongForm),
     }
 }
@@ -225,6 +253,11 @@ pub fn symbol_line(alloc: Global, draft: &mut Draft, words: &[&[u8]]) -> Result<
     let Some(profile) = draft.profile else {
         return Err(Fault::WrongForm);
     };
-    let symbol = symbol_of(alloc, width(&profile), &draft.banks, &draft.symbols, words)?;
+    let before = Before {
+        words: width(&profile),
+        banks: &draft.banks,
+        symbols: &draft.symbols,
+    };
+    let symbol = symbol_of(alloc, before, words)?;
     add_symbol(draft, symbol)
 }
