@@ -94,6 +94,24 @@ fn begun(alloc: Global, procs: &[Proc]) -> Result<Made, Memory>
     })
 }
 
+// What is made of a file's own statements, where it is known what is left of its procedures.
+fn expanded_with<'b, 'a>(
+    alloc: Global,
+    file: Procedures<'b, 'a>,
+    sizes: &[u64],
+    body: Vec<PStmt>,
+) -> Result<Made, Memory>
+    requires file { AreReady file }
+    requires sizes { HasSizes (map procedure_of file.procs.now) sizes.now }
+    ensures { IfOk result (λ m. own_held file.entry.procs.now m
+        ≡ with_made (held_start (map procedure_of file.entry.procs.now))
+        (inlined_body (bare_file file.entry.procs.now body.items))) }
+{
+    let mut made = begun(alloc, file.procs)?;
+    expand_own(alloc, file, sizes, body, &mut made)?;
+    Ok(made)
+}
+
 // What is made of a file's own statements, with no call left.
 fn expanded<'a>(
     alloc: Global,
@@ -113,9 +131,7 @@ fn expanded<'a>(
         numbers,
         bodies: bodies.as_slice(),
     };
-    let mut made = begun(alloc, procs)?;
-    expand_own(alloc, file, sizes, body, &mut made)?;
-    Ok(made)
+    expanded_with(alloc, file, sizes, body)
 }
 
 // The statements of the innermost block that is open.
