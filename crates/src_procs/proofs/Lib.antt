@@ -29,3 +29,4 @@ pub mod NeededBindings
 pub mod KeptNames
 pub mod OwnSteps
 pub mod OwnCalls
+pub mod WholeFiles

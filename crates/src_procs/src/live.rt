@@ -141,7 +141,7 @@ fn live_all<'a>(
 }
 
 // Statements without the calls that add nothing, where the first `callable` procedures can be called.
-fn live_statements<'a>(
+pub(crate) fn live_statements<'a>(
     alloc: Global,
     procs: &[Proc],
     numbers: &Numbers<'a>,

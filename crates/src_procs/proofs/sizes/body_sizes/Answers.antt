@@ -1,4 +1,4 @@
-use Rattle.std.proofs.Common.{List, map, length, sym, subst, ap, ◌∙◌, arith}
+use Rattle.std.proofs.Common.{map, length, sym, subst, ap, ◌∙◌, arith}
 use Rattle.src_procs.specs.Prelude.{AreSizes, procedure_of}
 use Rattle.src_procs.proofs.Measured.{one_body_measured}
 use Rattle.src_procs.proofs.sizes.body_sizes.Goals as goal
