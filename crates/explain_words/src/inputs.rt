@@ -20,7 +20,7 @@ use procs_parser::parse_procs;
 use run_data::{INPUT_BYTES, InputError, NameText, read_inputs};
 use src_lexer::{Token, lex};
 use src_parser::parse;
-use src_procs::inline;
+use src_procs::inline_owned;
 use src_tree::Program;
 use std::alloc::Global;
 
@@ -58,7 +58,7 @@ fn program_of(alloc: Global, tokens: &[Token], has_procs: bool) -> Option<Progra
         return parse(alloc, tokens).ok();
     }
     match parse_procs(alloc, tokens) {
-        Ok(file) => inline(alloc, file).ok(),
+        Ok(file) => inline_owned(alloc, file).ok(),
         Err(_) => None,
     }
 }

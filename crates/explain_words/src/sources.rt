@@ -16,7 +16,7 @@ use procs_parser::read_file;
 use resident_alloc::resident_plan;
 use src_lexer::{LexError, lex};
 use src_parser::{ParseError, TextError, read_source};
-use src_procs::{InlineError, inline};
+use src_procs::{InlineError, inline_owned};
 use src_tree::Program;
 use std::alloc::Global;
 
@@ -87,7 +87,7 @@ fn typed_file(alloc: Global, text: &[u8]) -> Result<Typed, Fault>
     requires { length text.now ≤ 2 ^ 20 }
 {
     let file = read_file(alloc, text)?;
-    match inline(alloc, file) {
+    match inline_owned(alloc, file) {
         Ok(program) => typed(alloc, program),
         Err(fault) => Err(Fault::Call(fault)),
     }
