@@ -88,13 +88,26 @@ impl Count {
     }
 }
 
-/// Warns of what a source that is accepted may not mean.
-pub(crate) fn warn_of_source(alloc: Global, name: &str, text: &[u8], out: &mut Words) {
-    let put = warned(alloc, name, text, out);
+/// Warns of what a source that is accepted may not mean. With `--fast` an array with a secret index may be in the
+/// scratchpad, so there is no warning of such an index.
+pub(crate) fn warn_of_source(
+    alloc: Global,
+    name: &str,
+    text: &[u8],
+    is_fast: bool,
+    out: &mut Words,
+) {
+    let put = warned(alloc, name, text, is_fast, out);
     out.starve_on(put);
 }
 
-fn warned(alloc: Global, name: &str, text: &[u8], out: &mut Words) -> Result<(), Memory> {
+fn warned(
+    alloc: Global,
+    name: &str,
+    text: &[u8],
+    is_fast: bool,
+    out: &mut Words,
+) -> Result<(), Memory> {
     let all = tokens_to_warn(alloc, name, text)?;
     let all = all.as_slice();
     let tokens = Tokens { name, text, all };
@@ -105,7 +118,9 @@ fn warned(alloc: Global, name: &str, text: &[u8], out: &mut Words) -> Result<(),
     }
     let variables = procedures.variables(alloc)?;
     procedures.warn_of_unused(alloc, &variables, &mut count, out)?;
-    tokens.warn_of_secret_index(&variables, &mut count, out);
+    if !is_fast {
+        tokens.warn_of_secret_index(&variables, &mut count, out);
+    }
     count.close(out);
     Ok(())
 }
@@ -219,7 +234,7 @@ impl<'a> Tokens<'a> {
                 out.say("this is the only secret index of ");
                 self.tell(
                     variable.declared.name,
-                    ", and makes each of its accesses an oblivious one, which takes longer\n",
+                    ", and makes each access to it oblivious, which takes longer\n",
                     out,
                 );
             }

@@ -1,5 +1,4 @@
 pub mod TreeLaws
+pub mod NodeEquality
 pub mod TableLaws
-pub mod StoredLists
-pub mod ChainLaws
 pub mod TreeEquality

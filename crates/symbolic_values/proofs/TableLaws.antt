@@ -1,14 +1,23 @@
 -- Laws of tables of nodes.
-use Rattle.std.proofs.Common.{◌≡◌, ℕ, ◌+◌, ◌-◌, ◌^◌, ◌<◌, ◌≤◌, List, [], ◌∷◌, ◌++◌, length, get_or, take, drop, slice_get, Some, Contains, sym, ap, ◌∙◌, subst, inl, inr, ◌⊎◌, ⊎_elim, arith, length-append, take-append-drop}
-use Rattle.std.specs.Prelude.{Result, Ok, Err, IfOk, OnErr}
-use Rattle.std.proofs.lemmas.Bool.{cases_lt}
+use Rattle.std.proofs.Common.{◌≡◌, ℕ, ◌+◌, ◌-◌, ◌^◌, ◌<◌, ◌≤◌, Bool, true, false, List, [], ◌∷◌, ◌++◌, length, get_or, take, drop, slice_get, Some, Contains, refl, sym, ap, ◌∙◌, subst, inl, inr, ◌⊎◌, ⊎_elim, arith, length-append, take-append-drop}
+use Rattle.std.specs.Prelude.{if◌then◌else◌, Result, Ok, Err, IfOk, OnErr}
+use Rattle.std.specs.List.{list_any}
+use Rattle.std.specs.Cmp.{IsEquivalence}
+use Rattle.std.proofs.lemmas.Bool.{cases_lt, false≢true}
 use Rattle.std.proofs.lemmas.List.{get_or_append_left}
 use Rattle.std.proofs.lemmas.List.Elements.{Contains-get_or}
+use Rattle.std.proofs.lemmas.Map.Views.{list_any-from_Contains}
 use Rattle.std.proofs.lemmas.Option.{slice_get_within, slice_get-get_or, get_or_from_slice_get}
 use Rattle.std.proofs.Math.Seq.{get_or-append_seam}
+use Rattle.indexmap.specs.IndexSet.{insert_key}
 use Rattle.symbolic_values.specs.declared.nodes.Node.{Node}
 use Rattle.symbolic_values.specs.Prelude.{Value, built, trees_of, tree_of, NamesBelow, IsTable, IsNumber, KeepsTrees, PlacedAt}
 use Rattle.symbolic_values.proofs.TreeLaws.{tree_of-append, tree_of-push, tree_of-node, built-injective, names_below-more}
+
+-- an item at a place of a list is contained in the list
+Contains-from_slice_get : {K : Type 0} (xs : List K) (i : ℕ) (x : K) → slice_get xs i ≡ Some x → Contains xs x
+Contains-from_slice_get xs i x at =
+    subst (Contains xs) (get_or_from_slice_get xs i x x at) (Contains-get_or xs i x (slice_get_within xs i x at))
 
 -- a place of a list with one more item is a place of the list, or the last
 push_cases : {K : Type 0} (xs : List K) (y : K) (i : ℕ) (x : K) → slice_get (xs ++ y ∷ []) i ≡ Some x
@@ -24,6 +33,29 @@ push_cases {K} xs y i x at =
     let last : i ≡ length xs = omega arith in
     inr (last, sym (get_or-append_seam xs y [] x) ∙ ap (λ (j : ℕ). get_or (xs ++ y ∷ []) j x) (sym last) ∙ here))
     (cases_lt i (length xs))
+
+-- the result of an insertion into a set of keys, if keys that compare as equal are equal
+pub inserted : (eq : Node → Node → Bool) → IsEquivalence eq → ((x y : Node) → eq x y ≡ true → x ≡ y)
+    → (old new : List Node) (n : Node) (i : ℕ) (stored : Node) → new ≡ insert_key eq old n
+    → slice_get new i ≡ Some stored → eq n stored ≡ true → PlacedAt old n i new
+inserted eq laws same old new n i stored keys at equal = by (list_any (eq n) old) refl
+  where
+    there : slice_get new i ≡ Some n
+    there = at ∙ ap Some (sym (same n stored equal))
+
+    after : (b : Bool) → list_any (eq n) old ≡ b → new ≡ (if b then old else old ++ n ∷ [])
+    after b e = keys ∙ ap (λ (c : Bool). if c then old else old ++ n ∷ []) e
+
+    absent : list_any (eq n) old ≡ false → Contains old n → ⊥
+    absent e h = false≢true (sym e ∙ list_any-from_Contains laws n old h)
+
+    by : (b : Bool) → list_any (eq n) old ≡ b → PlacedAt old n i new
+    by true e = inl (subst (λ (l : List Node). slice_get l i ≡ Some n) (after true e) there, after true e)
+    by false e =
+        ⊎_elim
+        (λ (h : slice_get old i ≡ Some n). absurd (absent e (Contains-from_slice_get old i n h)))
+        (λ (h : (i ≡ length old) × (n ≡ n)). inr (absent e, h.0, after false e))
+        (push_cases old n i n (subst (λ (l : List Node). slice_get l i ≡ Some n) (after false e) there))
 
 -- the table after a node was placed in it
 module _ (old : List Node) (table : IsTable old) (n : Node) (names : NamesBelow (length old) n) where

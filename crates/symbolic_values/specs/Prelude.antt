@@ -1,8 +1,5 @@
 -- The definitions that clauses and proofs above cite, passed on from one place. Declares nothing.
-pub use Rattle.symbolic_values.specs.Chains.{AreChained, HasSearchedTo, IsIndexed, IsLast}
-unfoldable pub use Rattle.symbolic_values.specs.Chains.{bucket_of}
 unfoldable pub use Rattle.symbolic_values.specs.Sameness.{same_op, same_tree}
-unfoldable pub use Rattle.symbolic_values.specs.StoredNodes.{node_of, nodes_of}
 pub use Rattle.symbolic_values.specs.Tables.{IsNumber, IsTable}
 unfoldable pub use Rattle.symbolic_values.specs.Tables.{KeepsTrees, PlacedAt}
 unfoldable pub use Rattle.symbolic_values.specs.TreeValues.{as_number, value_of}

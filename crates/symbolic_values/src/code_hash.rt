@@ -1,18 +1,24 @@
-ghost use Rattle.std.specs.Prelude.{◌≡◌, ◌<◌};
-ghost use Rattle.symbolic_values.specs.Chains.{bucket_of, hash_of};
+ghost use Rattle.std.specs.Prelude.{fold};
+ghost use Rattle.std.specs.Hash as fed;
+ghost use Rattle.std.specs.Hash.FoldHasher as folding;
 
-use crate::nodes::{Node, node_word};
 use lt_isa::Instr;
 use lt_isa::instruction_table::{Kind, opcode_of};
-use std::hash::{FoldHasher, Hasher};
+use std::hash::{BuildHasher, FoldHasher, Hasher};
 
-// Hashes the nodes of an object's values, with two keys that are computed from all of the object's code: one is read
-// before a node and the other after it. So nobody can choose constants that collide in a table, since the choice
-// changes both keys, and without both one can't predict which words collide. The hash determines how long a look-up
+// Hashes the nodes of an object's values, with two keys that are computed from all of the object's code. So nobody can
+// choose constants that collide in a table, since the choice changes both keys. The hash determines how long a look-up
 // takes, but not its result.
 #[derive(Clone, Copy)]
-pub struct CodeHash {
-    first_key: FoldHasher,
+pub(crate) struct CodeHash {
+    keyed: NodeHasher,
+}
+
+// A fast hasher, with one key before the words and another after them. Without both keys one can't predict which words
+// collide.
+#[derive(Clone, Copy)]
+pub(crate) struct NodeHasher {
+    behind_key: FoldHasher,
     last_key: u64,
 }
 
@@ -37,34 +43,14 @@ impl CodeHash {
             }
         }
         let (first_key, last_key) = digest.keys();
-        let mut hasher = FoldHasher::default();
-        hasher.write_u64(first_key);
+        let mut behind_key = FoldHasher::default();
+        behind_key.write_u64(first_key);
         CodeHash {
-            first_key: hasher,
-            last_key,
+            keyed: NodeHasher {
+                behind_key,
+                last_key,
+            },
         }
-    }
-
-    // The bucket of a node among `count` buckets. All buckets are used if their number is a power of two.
-    #[inline(always)]
-    #[tactic(auto, unfolding(crate::specs::Chains::bucket_of))]
-    pub(crate) fn bucket(self, node: Node, count: usize) -> usize
-        requires { 0 < count }
-        ensures bucket { result ≡ bucket_of self count node }
-        ensures inside { result < count }
-    {
-        self.hash(node) as usize & (count - 1)
-    }
-
-    #[inline(always)]
-    #[tactic(auto, unfolding(crate::specs::Chains::hash_of))]
-    fn hash(self, node: Node) -> u64
-        ensures { result ≡ hash_of self node }
-    {
-        let mut hasher = self.first_key;
-        hasher.write_u64(node_word(node));
-        hasher.write_u64(self.last_key);
-        hasher.finish()
     }
 }
 
@@ -154,5 +140,31 @@ impl Digest {
         self.round();
         self.round();
         self.v0 ^ self.v1 ^ self.v2 ^ self.v3
+    }
+}
+
+impl BuildHasher for CodeHash {
+    type Hasher = NodeHasher;
+
+    ghost build_hasher = { λ h. h.keyed };
+
+    fn build_hasher(&self) -> NodeHasher {
+        self.keyed
+    }
+}
+
+impl Hasher for NodeHasher {
+    ghost write = { λ h bytes. record { behind_key = folding.write h.behind_key bytes; last_key = h.last_key } };
+
+    ghost finish = { λ h. folding.finish (fold folding.write h.behind_key (fed.u64 h.last_key)) };
+
+    fn write(&mut self, bytes: &[u8]) {
+        self.behind_key.write(bytes);
+    }
+
+    fn finish(&self) -> u64 {
+        let mut hasher = self.behind_key;
+        hasher.write_u64(self.last_key);
+        hasher.finish()
     }
 }

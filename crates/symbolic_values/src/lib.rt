@@ -7,8 +7,6 @@
 #![tactic(auto)]
 
 mod code_hash;
-mod node_list;
-mod node_table;
 pub mod nodes;
 pub mod values;
 

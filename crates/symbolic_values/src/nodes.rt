@@ -1,7 +1,11 @@
 ghost use Rattle.std.specs.Prelude.{◌≡◌};
+ghost use Rattle.std.specs.Hash as fed;
 ghost use Rattle.symbolic_values.specs.NodeWords.{node_word, pair_word};
+ghost use Rattle.std.proofs.Common.{rules};
+ghost use Rattle.std.specs.Cmp.Rules.{hashing};
 
 use gr_word::Op;
+use std::hash::{Hash, Hasher};
 
 /// A bit that marks the word of a constant.
 const CONST_MARK: u64 = 1 << 62;
@@ -26,9 +30,19 @@ pub enum Node {
     Apply(Op, u32, u32),
 }
 
+impl Hash for Node {
+    ghost hash_input = { λ n. fed.u64 (node_word n) };
+
+    ghost respects_eq = { Prim.search (hashing, rules) };
+
+    fn hash<H: Hasher>(&self, state: &mut H) {
+        state.write_u64(node_word(*self));
+    }
+}
+
 // The word by which a table looks for a node. Different operations on the same values share a word. Other nodes hardly
 // ever do, since the marks are bits that the numbers of smaller tables and constants of usual size don't have.
-pub(crate) fn node_word(node: Node) -> u64
+fn node_word(node: Node) -> u64
     ensures { result ≡ node_word node }
 {
     match node {

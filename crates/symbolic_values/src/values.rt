@@ -1,11 +1,11 @@
-ghost use Rattle.std.specs.Prelude.{◌≡◌, ◌<◌, ◌-◌, ◌^◌, [], Some, length, take, slice_get, IfOk, OnOk, OnErr};
+ghost use Rattle.std.specs.Prelude.{◌≡◌, ◌<◌, ◌-◌, ◌^◌, [], Some, true, length, take, slice_get, IfOk, OnOk, OnErr};
 ghost use Rattle.symbolic_values.specs.Trees.{NamesBelow, built, trees_of};
-ghost use Rattle.symbolic_values.specs.Chains.{IsInOrder};
 ghost use Rattle.symbolic_values.specs.Tables.{IsTable, IsNumber, KeepsTrees, PlacedAt};
 
-use crate::node_table::NodeTable;
+use crate::code_hash::CodeHash;
 use crate::nodes::Node;
 use gr_base::Memory;
+use indexmap::IndexSet;
 use lt_isa::Instr;
 use std::alloc::Global;
 use std::marker::Model;
@@ -13,7 +13,7 @@ use std::marker::Model;
 /// A table of nodes in which each tree has one number. Contracts see it as the list of its nodes.
 #[derive(Drop)]
 pub struct Values {
-    table: NodeTable,
+    nodes: IndexSet<Node, CodeHash>,
     // The number after the one that was found last. Arms that do the same look for the same nodes in the same order, so
     // this number is tried before the node is hashed.
     next: u32,
@@ -26,11 +26,9 @@ impl Model for Values {
 
     ghost Value = { List OneNode };
 
-    ghost use Rattle.symbolic_values.specs.Chains.{IsInOrder};
+    ghost view = { λ v. v.nodes.keys };
 
-    ghost view = { λ v. v.table.nodes };
-
-    ghost invariant = { λ v. IsTable v.table.nodes × IsInOrder v.table };
+    ghost invariant = { λ v. IsTable v.nodes.keys };
 }
 
 impl Values {
@@ -49,7 +47,7 @@ impl Values {
         ensures table { IsTable result }
     {
         Values {
-            table: NodeTable::for_code(alloc, code),
+            nodes: IndexSet::with_hasher(alloc, CodeHash::of(code)),
             next: 0,
         }
     }
@@ -59,7 +57,7 @@ impl Values {
         ensures len { result ≡ length self.now }
         ensures table { IsTable self.now }
     {
-        self.table.nodes().len() as u32
+        self.nodes.len() as u32
     }
 
     /// The node with number `i`. The nodes that it names have lower numbers.
@@ -69,7 +67,7 @@ impl Values {
         ensures earlier { NamesBelow i result }
         ensures table { IsTable self.now }
     {
-        self.table.nodes().node(i as usize)
+        self.nodes.as_slice()[i as usize]
     }
 
     /// The number of the tree of a node. If the table doesn't have the node, it is added. Earlier numbers keep their
@@ -84,7 +82,7 @@ impl Values {
         ensures table { IsTable self.new }
         ensures unchanged { OnErr result (self.new ≡ self.old) }
     {
-        put(&mut self.table, &mut self.next, node)
+        put(&mut self.nodes, &mut self.next, node)
     }
 
     /// Keeps the first `count` nodes, and the room that the others took.
@@ -92,26 +90,24 @@ impl Values {
         ensures first { self.new ≡ take count self.old }
         ensures table { IsTable self.new }
     {
-        self.table.keep(count as usize);
+        self.nodes.truncate(count as usize);
     }
 }
 
-// The place of a node in a table; if it isn't there, it is added at the end. The place `next` is tried first, and `next`
-// becomes the place after the node's.
+// The place of a node among others; if it isn't there, it is added at the end. The place `next` is tried first, and
+// `next` becomes the place after the node's.
 #[inline(always)]
-fn put(table: &mut NodeTable, next: &mut u32, node: Node) -> Result<u32, Memory>
-    requires order { IsInOrder table.old }
-    requires room { length table.old.nodes < 2 ^ 32 - 1 }
-    ensures place { IfOk result (λ i. PlacedAt table.old.nodes node i table.new.nodes) }
-    ensures unchanged { OnErr result (table.new.nodes ≡ table.old.nodes) }
-    ensures order { IsInOrder table.new }
+fn put(nodes: &mut IndexSet<Node, CodeHash>, next: &mut u32, node: Node) -> Result<u32, Memory>
+    requires { length nodes.old.keys < 2 ^ 32 - 1 }
+    ensures place { IfOk result (λ i. PlacedAt nodes.old.keys node i nodes.new.keys) }
+    ensures unchanged { OnErr result (nodes.new.keys ≡ nodes.old.keys) }
 {
     let guess = *next;
-    if table.nodes().is_at(guess as usize, node) {
+    if stands_at(nodes.as_slice(), guess, node) {
         *next = guess.wrapping_add(1);
         return Ok(guess);
     }
-    match find_or_add(table, node) {
+    match insert(nodes, node) {
         Err(_) => Err(Memory),
         Ok(place) => {
             *next = place.wrapping_add(1);
@@ -120,15 +116,25 @@ fn put(table: &mut NodeTable, next: &mut u32, node: Node) -> Result<u32, Memory>
     }
 }
 
+// Whether a node is at a place.
+#[inline(always)]
+fn stands_at(nodes: &[Node], place: u32, node: Node) -> bool
+    ensures { result ≡ true → slice_get nodes.now place ≡ Some node }
+{
+    match nodes.get(place as usize) {
+        None => false,
+        Some(found) => *found == node,
+    }
+}
+
 // The same by the hash of the node. It is a function of its own, so that a call that finds the node at the place `next`
 // doesn't need its stack.
 #[inline(never)]
-fn find_or_add(table: &mut NodeTable, node: Node) -> Result<u32, Memory>
-    requires order { IsInOrder table.old }
-    requires room { length table.old.nodes < 2 ^ 32 - 1 }
-    ensures place { IfOk result (λ i. PlacedAt table.old.nodes node i table.new.nodes) }
-    ensures unchanged { OnErr result (table.new.nodes ≡ table.old.nodes) }
-    ensures order { IsInOrder table.new }
+fn insert(nodes: &mut IndexSet<Node, CodeHash>, node: Node) -> Result<u32, Memory>
+    requires { length nodes.old.keys < 2 ^ 32 - 1 }
+    ensures place { IfOk result (λ i. PlacedAt nodes.old.keys node i nodes.new.keys) }
+    ensures unchanged { OnErr result (nodes.new.keys ≡ nodes.old.keys) }
 {
-    table.place_of(node)
+    let (place, _) = nodes.insert_full(node)?;
+    Ok(place as u32)
 }

@@ -144,7 +144,7 @@ async function spent(user) {
   await user.writesInputs('{}', '{}');
   await user.writesOption('cycles', '1000');
   const told = await user.presses('run');
-  user.says(told.includes('Run 1 didn’t halt within 1,000 cycles') && told.includes('Allow more under Options')
+  user.says(told.includes('Run 1 didn’t halt within 1,000 cycles') && told.includes('Raise it under Options')
     && !COMMAND.test(told), 'a run that isn’t done within its cycles', told);
   await user.writesOption('cycles', '10000000');
 }
