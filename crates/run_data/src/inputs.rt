@@ -86,28 +86,46 @@ fn check_value(alloc: Global, want: &Want, name: &str, given: &Given) -> Result<
         (λ e. e ≢ InputError.Memory → given_value_fault want.now (given_view given.now) ≡ Some e) }
 {
     match want.shape {
-        Shape::Scalar => {
-            let Given::Number(word) = given else {
-                return Err(InputError::WrongShape(NameText::new(alloc, name)?));
-            };
-            if word.is_none() {
-                return Err(InputError::NotAWord(NameText::new(alloc, name)?));
-            }
-            Ok(())
-        }
-        Shape::Array => {
-            let Given::Items(list) = given else {
-                return Err(InputError::WrongShape(NameText::new(alloc, name)?));
-            };
-            if list.words.len() != want.length as usize {
-                return Err(InputError::WrongLength(NameText::new(alloc, name)?));
-            }
-            if !list.are_words {
-                return Err(InputError::NotAWord(NameText::new(alloc, name)?));
-            }
-            Ok(())
-        }
+        Shape::Scalar => check_scalar(alloc, want, name, given),
+        Shape::Array => check_array(alloc, want, name, given),
     }
+}
+
+/// Whether a value gives a scalar its word.
+fn check_scalar(alloc: Global, want: &Want, name: &str, given: &Given) -> Result<(), InputError>
+    requires named { want.now.name ≡ name.now }
+    requires scalar { want.now.shape ≡ Shape.Scalar }
+    ensures none { OnOk result (given_value_fault want.now (given_view given.now) ≡ None) }
+    ensures first { IfErr result
+        (λ e. e ≢ InputError.Memory → given_value_fault want.now (given_view given.now) ≡ Some e) }
+{
+    let Given::Number(word) = given else {
+        return Err(InputError::WrongShape(NameText::new(alloc, name)?));
+    };
+    if word.is_none() {
+        return Err(InputError::NotAWord(NameText::new(alloc, name)?));
+    }
+    Ok(())
+}
+
+/// Whether a value gives an array its words.
+fn check_array(alloc: Global, want: &Want, name: &str, given: &Given) -> Result<(), InputError>
+    requires named { want.now.name ≡ name.now }
+    requires array { want.now.shape ≡ Shape.Array }
+    ensures none { OnOk result (given_value_fault want.now (given_view given.now) ≡ None) }
+    ensures first { IfErr result
+        (λ e. e ≢ InputError.Memory → given_value_fault want.now (given_view given.now) ≡ Some e) }
+{
+    let Given::Items(list) = given else {
+        return Err(InputError::WrongShape(NameText::new(alloc, name)?));
+    };
+    if list.words.len() != want.length as usize {
+        return Err(InputError::WrongLength(NameText::new(alloc, name)?));
+    }
+    if !list.are_words {
+        return Err(InputError::NotAWord(NameText::new(alloc, name)?));
+    }
+    Ok(())
 }
 
 /// The words that the members give the variables.
@@ -172,11 +190,7 @@ fn copied(alloc: Global, words: &[i64]) -> Result<Vec<i64>, Memory>
     ensures copied { IfOk result (λ copy. copy.items ≡ words.now) }
     ensures words { IfOk result (λ copy. AreWords copy.items) }
 {
-    let mut copy = Vec::with_capacity(alloc, words.len())?;
-    for word in words {
-        copy.push(*word)?;
-    }
-    Ok(copy)
+    Ok(Vec::from_slice(alloc, words)?)
 }
 
 /// The text of a name, which is ASCII.
