@@ -243,7 +243,8 @@ pub(crate) fn put_difference(refused: &Refused<'_>, place: usize, known: &Known,
         }
     }
     out.line(
-        "Both paths access the same banks at the same cycles, but the check can't tell that they access the same blocks.",
+        "Both paths access the same banks at the same cycles, but the check can't tell that they access the same \
+        blocks.",
     )
 }
 

@@ -16,13 +16,13 @@ const TEXT_BYTES: usize = 67_108_864;
 
 /// Which lines there are.
 const LINES: &str =
-    "A line is `.object`, `.bank`, `.symbol`, `.note`, a label such as `next:`, or an instruction: nop halt li \
-    ldb stb idb ldw stw jmp br add sub mul div rem remu and or xor shl shr.";
+    "A line is `.object`, `.bank`, `.symbol`, `.note`, a label such as `next:`, or an instruction: nop halt li ldb stb \
+    idb ldw stw jmp br add sub mul div rem remu and or xor shl shr.";
 
 /// What a text has at least.
 const PARTS: &str =
-    "It needs a first line `.object`, at least two banks, at least one instruction, and an instruction after \
-    each note.";
+    "It needs a first line `.object`, at least two banks, at least one instruction, and an instruction after each \
+    note.";
 
 /// A line of an assembly text, and the byte at which it begins.
 #[derive(Clone, Copy)]
@@ -50,7 +50,8 @@ pub(crate) fn explain_assembly(alloc: Global, name: &str, text: &[u8], out: &mut
         AsmError::OverLimit(number) => line_at(source, number).put(
             0,
             "this line exceeds a limit",
-            "A text has at most 10 banks, 1,024 symbols of 4,194,304 words in all, 262,144 notes and 1,048,576 instructions.",
+            "A text has at most 10 banks, 1,024 symbols of 4,194,304 words in all, 262,144 notes and 1,048,576 \
+            instructions.",
             out,
         ),
     }

@@ -75,8 +75,8 @@ fn lack_of(cores: &[Core<'_>], number: usize, core: &Core<'_>) -> Option<Lack> {
     }
     if period < ours.up_to {
         return Some(Lack {
-            words: "its accesses may be on the bus up to cycle {} of a period, which has only {}\nClose its window earlier, or \
-                give all objects a longer period.\n",
+            words: "its accesses may be on the bus up to cycle {} of a period, which has only {}\nClose its window \
+            earlier, or give all objects a longer period.\n",
             numbers: [ours.up_to, period, 0, 0, 0],
         });
     }
@@ -84,8 +84,9 @@ fn lack_of(cores: &[Core<'_>], number: usize, core: &Core<'_>) -> Option<Lack> {
         let theirs = reach_of(&other.object);
         if ours.from < theirs.up_to && theirs.from < ours.up_to {
             return Some(Lack {
-                words: "its accesses may be on the bus from cycle {} up to {} of a period, and the accesses of core {} from {} \
-                    up to {}\nOpen its window after the other core's accesses end, or close it before they begin.\n",
+                words: "its accesses may be on the bus from cycle {} up to {} of a period, and the accesses of core {} \
+                from {} up to {}\nOpen its window after the other core's accesses end, or close it before they \
+                begin.\n",
                 numbers: [
                     ours.from,
                     ours.up_to,

@@ -1,6 +1,6 @@
 //! Bytes that begin no token, and what is meant by them, as one table.
 
-use crate::habits::{FOR, LISTS, OUTPUT, PRINTING, PROCEDURE, SWITCH};
+use crate::hints::{FOR, LISTS, OUTPUT, PRINTING, PROCEDURE, SWITCH};
 use crate::texts::{Source, is_word_of, piece, spot_at};
 use crate::tokens::{Tokens, tokens_of};
 use crate::words::Words;

@@ -1,6 +1,6 @@
 //! Why the calls of a file with procedures can't be replaced.
 
-use crate::habits::{OUTPUT, PRINTING};
+use crate::hints::{OUTPUT, PRINTING};
 use crate::nearest::Nearest;
 use crate::procedures::{Procedure, Procedures};
 use crate::texts::{is_word_of, length_up_to, piece, spot_at};

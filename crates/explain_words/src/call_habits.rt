@@ -1,6 +1,6 @@
 //! The habits of C about procedures and calls, as tables.
 
-use crate::habits::{Habit, sentence_of};
+use crate::habit_search::{Habit, sentence_of};
 use crate::tokens::Tokens;
 use crate::wanted::Wanted;
 

@@ -195,7 +195,8 @@ impl<'a, 'b> Call<'a, 'b> {
     fn put_spent(&self, out: &mut Words) {
         if self.verb() == "eval" {
             out.fill(
-                "The loops reached the limit of {} iterations. Raise it with --turns N, or check for an endless loop.\n",
+                "The loops reached the limit of {} iterations. Raise it with --turns N, or check for an endless \
+                loop.\n",
                 &[self.number_of("--turns", USUAL_LIMIT)],
             )
         } else {

@@ -12,7 +12,8 @@ use std::alloc::Global;
 
 /// The form of a file of cases.
 const CASES_FORM: &str =
-    "Each line of a file of cases is one JSON object, `{\"in\":{\"n\":3},\"out\":{\"best\":7}}`. Empty lines are skipped.";
+    "Each line of a file of cases is one JSON object, `{\"in\":{\"n\":3},\"out\":{\"best\":7}}`. Empty lines are \
+    skipped.";
 
 /// Explains why a file has no cases: it is another kind of file, it isn't UTF-8, or all of its lines are empty. Each other
 /// fault is a case that fails.

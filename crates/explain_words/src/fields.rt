@@ -127,7 +127,8 @@ fn field_of_symbol(at: usize, start: usize, place: usize, number: usize) -> Fiel
             ),
             _ => (
                 "the length of symbol",
-                "1 for a scalar, 1 to 1,048,576 for an array; within its bank, and at most 4,194,304 for all symbols together",
+                "1 for a scalar, 1 to 1,048,576 for an array; within its bank, and at most 4,194,304 for all symbols \
+                together",
             ),
         }
     };

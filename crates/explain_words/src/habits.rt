@@ -1,43 +1,12 @@
 //! The habits of C that this language doesn't know, as one table.
 
-use crate::texts::is_word_of;
+use crate::habit_search::{Habit, sentence_of};
+use crate::hints::{
+    COMPARISON, FOR, LISTS, LOOP_AND, LOOP_OR, NO_VALUE, OUTPUT, PRINTING, PROCEDURE, RESULT,
+    SWITCH,
+};
 use crate::tokens::Tokens;
 use crate::wanted::Wanted;
-
-/// A habit of another language, by the tokens around an unexpected one: the first of its statement, the one before it,
-/// itself, and the one after it, each one of some words, or any if there is no word; the tokens expected there, or any;
-/// and how to write here what was meant.
-pub(crate) type Habit = [&'static str; 6];
-
-/// Words of other languages for output.
-pub(crate) const PRINTING: &str = "print printf println puts putchar echo write output";
-
-/// Where the output of a program is.
-pub(crate) const OUTPUT: &str =
-    "A program prints nothing: the final values of its variables are its output, which `eval` and `run` write.";
-
-/// How to write a loop that counts.
-pub(crate) const FOR: &str = "There is no `for`: write `i = 0; while (i < n) { .. i = i + 1; }`.";
-
-/// How to write a procedure.
-pub(crate) const PROCEDURE: &str =
-    "A procedure is written `proc f(secret int p; int a[]) { .. }`, and needs the option --procs.";
-
-/// How to write what a function returns.
-const RESULT: &str =
-    "A procedure returns nothing: its result goes to an array, as in `proc f(secret int p; int o[]) { o[0] = p + 1; }`.";
-
-/// How to choose between several values.
-pub(crate) const SWITCH: &str =
-    "There is no `switch`: write one `if` after another, `if (x == 1) { .. } if (x == 2) { .. }`.";
-
-/// How a loop has two conditions.
-const LOOP_AND: &str =
-    "There is no `&&`: loop on one condition, and test the other inside, `while (i < 10) { if (s > 0) { .. } i = i + 1; }`.";
-
-/// How a loop ends only if neither of two conditions holds.
-const LOOP_OR: &str =
-    "There is no `||`: let a variable say whether one of the conditions holds, and loop while it is 1, `while (go == 1) { .. }`.";
 
 const HABITS: &[Habit] = &[
     ["proc", "proc", "int void public secret", "", "", RESULT],
@@ -173,7 +142,8 @@ const HABITS: &[Habit] = &[
         "",
         "",
         "=",
-        "Declare the variable at the beginning of the file, `public int x;` or `secret int x;`, and assign to it later: `x = 1;`.",
+        "Declare the variable at the beginning of the file, `public int x;` or `secret int x;`, and assign to it \
+        later: `x = 1;`.",
     ],
     [
         "elif elseif elsif",
@@ -199,8 +169,8 @@ const HABITS: &[Habit] = &[
         "",
         "",
         "=",
-        "There is no `return`, `break`, `continue` or `goto`: a program ends after its last statement, and a \
-        loop when its condition is false.",
+        "There is no `return`, `break`, `continue` or `goto`: a program ends after its last statement, and a loop when \
+        its condition is false.",
     ],
     [
         "const static final",
@@ -416,7 +386,8 @@ const HABITS: &[Habit] = &[
         "== != < <= > >=",
         "",
         "",
-        "A condition is one comparison, not in further parentheses: nest two `if`s, `if (0 < x) { if (x < 3) { .. } }`.",
+        "A condition is one comparison, not in further parentheses: nest two `if`s, `if (0 < x) { if (x < 3) { .. } \
+        }`.",
     ],
     [
         "public secret",
@@ -496,30 +467,6 @@ const HABITS: &[Habit] = &[
     ],
 ];
 
-const NO_VALUE: &str =
-    "A call has no value: call the procedure in an earlier statement, with an array that takes the result.";
-
-/// How a comparison becomes a value.
-const COMPARISON: &str =
-    "A comparison is only allowed in a condition: write `x = 0; if (s > 2) { x = 1; }`.";
-
-/// How to give an array its values.
-pub(crate) const LISTS: &str =
-    "There are no lists of values: assign each element, as in `a[0] = 1; a[1] = 2;`, or give the array in the inputs.";
-
-fn is_among(words: &str, token: &[u8]) -> bool {
-    words.is_empty() || is_word_of(words, token)
-}
-
-fn fits(habit: &Habit, tokens: Tokens<'_>, at: usize, wanted: &Wanted) -> bool {
-    let [begins, before, here, after, wants, _] = *habit;
-    is_among(begins, tokens.word(tokens.first_of(at)))
-        && is_among(before, tokens.before(at))
-        && is_among(here, tokens.word(at))
-        && is_among(after, tokens.word(at.saturating_add(1)))
-        && (wants.is_empty() || wanted.has_each(wants))
-}
-
 // Whether a function of C begins at a token, other than `main`.
 fn begins_function(tokens: Tokens<'_>, at: usize) -> bool {
     let name = at.saturating_add(1);
@@ -528,21 +475,6 @@ fn begins_function(tokens: Tokens<'_>, at: usize) -> bool {
         && tokens.is_name(name)
         && !tokens.is(name, "main")
         && tokens.is(at.saturating_add(2), "(")
-}
-
-/// The sentence of the first habit that fits.
-pub(crate) fn sentence_of(
-    habits: &'static [Habit],
-    tokens: Tokens<'_>,
-    at: usize,
-    wanted: &Wanted,
-) -> Option<&'static str> {
-    for habit in habits {
-        if fits(habit, tokens, at, wanted) {
-            return Some(habit[5]);
-        }
-    }
-    None
 }
 
 /// How to write here what was meant, if a known habit leads to the unexpected token.

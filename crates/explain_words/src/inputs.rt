@@ -65,8 +65,8 @@ fn program_of(alloc: Global, tokens: &[Token], has_procs: bool) -> Option<Progra
 
 /// The form of inputs.
 const JSON_FORM: &str =
-    "Inputs are one JSON object, such as `{\"n\":3,\"a\":[1,2,3]}`: names in double quotation marks, decimal integers, and \
-    a comma between two members or items, but none after the last.";
+    "Inputs are one JSON object, such as `{\"n\":3,\"a\":[1,2,3]}`: names in double quotation marks, decimal integers, \
+    and a comma between two members or items, but none after the last.";
 
 /// The most variables that are named.
 const NAMES_SHOWN: u32 = 20;

@@ -9,8 +9,8 @@ use gr_word::name_fits;
 pub(crate) type LineForm = [&'static str; 3];
 
 const OBJECT: &str =
-    "The first line is `.object 1 W ALU MUL WORD TAKEN`, or `.object 2 W ALU MUL WORD TAKEN PERIOD OPEN \
-    CLOSE`. W is from 3 to 9; ALU, MUL and WORD are from 1 to 127 cycles, and TAKEN is from 1 to 32.";
+    "The first line is `.object 1 W ALU MUL WORD TAKEN`, or `.object 2 W ALU MUL WORD TAKEN PERIOD OPEN CLOSE`. W is \
+    from 3 to 9; ALU, MUL and WORD are from 1 to 127 cycles, and TAKEN is from 1 to 32.";
 
 /// The form of a first line with a window.
 const WINDOWED: LineForm = [
@@ -24,20 +24,20 @@ pub(crate) const FORMS: &[LineForm] = &[
     [
         ".bank",
         "1..65536 1..1000000",
-        "Its form is `.bank BLOCKS LATENCY`, after `.object`. There are 2 to 10 banks: the first two have at most 65536 \
-        blocks, and the others 4096. A latency is at most 1000000 cycles.",
+        "Its form is `.bank BLOCKS LATENCY`, after `.object`. There are 2 to 10 banks: the first two have at most \
+        65536 blocks, and the others 4096. A latency is at most 1000000 cycles.",
     ],
     [
         ".symbol",
         "name label shape 0..9 0..65535 0..511 1..1048576",
-        "Its form is `.symbol NAME LABEL SHAPE BANK BLOCK WORD LENGTH`, after the banks. LABEL is public or secret, and \
-        SHAPE is scalar or array. The variable is within its bank, and after the previous symbol.",
+        "Its form is `.symbol NAME LABEL SHAPE BANK BLOCK WORD LENGTH`, after the banks. LABEL is public or secret, \
+        and SHAPE is scalar or array. The variable is within its bank, and after the previous symbol.",
     ],
     [
         ".note",
         "mask claim claim claim claim claim claim claim claim",
-        "Its form is `.note MASK S0 .. S7`, directly before an instruction. MASK is eight hexadecimal digits in lower case, \
-        and each slot has `-` or a bank's number.",
+        "Its form is `.note MASK S0 .. S7`, directly before an instruction. MASK is eight hexadecimal digits in lower \
+        case, and each slot has `-` or a bank's number.",
     ],
     [
         "br",

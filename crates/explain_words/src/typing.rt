@@ -160,7 +160,8 @@ impl Sight<'_> {
             self.put(self.depth(), at, " is an array, but has no index", out);
             self.put_alias(self.depth(), at, out);
             out.line(
-                "Name one of its words, as in `a[i]`. A loop copies an array: `while (i < 9) { a[i] = b[i]; i = i + 1; }`.",
+                "Name one of its words, as in `a[i]`. A loop copies an array: `while (i < 9) { a[i] = b[i]; i = i + 1; \
+                }`.",
             );
             return true;
         }

@@ -41,8 +41,8 @@ pub(crate) fn explain_tokens(
             Source { name, text }.put(
                 start as usize,
                 "this is nested too deeply",
-                "At most 32 of `(`, `[` and the sign `-`, and 32 of `{`, can be open, and a statement has at most 256 operators: \
-                assign a part to a variable, in an earlier statement.",
+                "At most 32 of `(`, `[` and the sign `-`, and 32 of `{`, can be open, and a statement has at most 256 \
+                operators: assign a part to a variable, in an earlier statement.",
                 out,
             );
             Ok(())

@@ -33,8 +33,8 @@ impl Procedures<'_> {
         out.put_line(tokens.text, spot);
         if deepest.outside > 0 {
             out.fill(
-                "This `if` is nested in {} others on secrets, and each of them counts its contents twice. Write one `if` after \
-                another instead, `if (x == 1) { .. } if (x == 2) { .. }`.\n",
+                "This `if` is nested in {} others on secrets, and each of them counts its contents twice. Write one \
+                `if` after another instead, `if (x == 1) { .. } if (x == 2) { .. }`.\n",
                 &[deepest.outside],
             );
         }
