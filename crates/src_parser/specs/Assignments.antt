@@ -8,12 +8,19 @@ use Rattle.src_parser.specs.Expressions.{IsExpression}
 use Rattle.src_parser.specs.Tokenwise.{advances, Goes}
 use Rattle.src_parser.specs.Statements.{Outer, Among, Ready}
 use Rattle.src_parser.specs.Advances.{ParserState, Doing, advanced}
+use Rattle.src_lexer.specs.declared.tokens.TokenKind.TheVariants as kind
 
 -- these tokens are an expression with this tree, and a last token
 pub record EndedBy (last : TokenKind) (opened used : ℕ) (tokens : List TokenKind) (tree : Tree) : Type 0 where
   pub front : List TokenKind
   pub split : tokens ≡ front ++ last ∷ []
   pub is : IsExpression limits opened used front tree
+
+-- these tokens are a `=`, an expression with this tree, and a `;`
+pub record Assigned (used : ℕ) (tokens : List TokenKind) (tree : Tree) : Type 0 where
+  pub rest : List TokenKind
+  pub split : tokens ≡ kind.Assign ∷ rest
+  pub is : EndedBy kind.Semi 0 used rest tree
 
 -- these tokens lead from a state to another one
 pub record Leads (before : ParserState) (tokens : List TokenKind) (after : ParserState) : Type 0 where

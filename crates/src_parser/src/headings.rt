@@ -1,6 +1,6 @@
 ghost use Rattle.std.specs.Prelude.{◌≡◌, IfOk};
 ghost use Rattle.src_lexer.specs.declared.tokens.TokenKind.TheVariants.{Num};
-ghost use Rattle.src_parser.specs.Headings.{declared, heading_advanced, Declared, Sizing, Typed};
+ghost use Rattle.src_parser.specs.Headings.{declared, heading_advanced, Closing, Declared, Sized, Sizing, Titled, Typed};
 ghost use Rattle.src_parser.specs.Seen.{heading_of, heading_advance_of};
 ghost use Rattle.src_parser.specs.Tokenwise.{Goes};
 
@@ -62,6 +62,43 @@ fn typed(alloc: Global, label: Label, kind: &TokenKind) -> Result<HeadingAdvance
     }
 }
 
+fn titled(label: Label, name: Name, kind: &TokenKind) -> HeadingAdvance
+    ensures { heading_advance_of result ≡ heading_advanced (Titled label name) kind.now }
+{
+    match kind {
+        TokenKind::Semi => end(label, name, None),
+        TokenKind::LBracket => HeadingAdvance::Goes(Heading::Sizing(label, name)),
+        _ => HeadingAdvance::Wrong,
+    }
+}
+
+fn sizing(label: Label, name: Name, kind: &TokenKind) -> HeadingAdvance
+    ensures { heading_advance_of result ≡ heading_advanced (Sizing label name) kind.now }
+{
+    match kind {
+        TokenKind::Num(value) => size(label, name, *value),
+        _ => HeadingAdvance::Wrong,
+    }
+}
+
+fn sized(label: Label, name: Name, length: u64, kind: &TokenKind) -> HeadingAdvance
+    ensures { heading_advance_of result ≡ heading_advanced (Sized label name length) kind.now }
+{
+    match kind {
+        TokenKind::RBracket => HeadingAdvance::Goes(Heading::Closing(label, name, length)),
+        _ => HeadingAdvance::Wrong,
+    }
+}
+
+fn closing(label: Label, name: Name, length: u64, kind: &TokenKind) -> HeadingAdvance
+    ensures { heading_advance_of result ≡ heading_advanced (Closing label name length) kind.now }
+{
+    match kind {
+        TokenKind::Semi => end(label, name, Some(length)),
+        _ => HeadingAdvance::Wrong,
+    }
+}
+
 /// Reads the next token of a declaration. `Memory` says nothing about the tokens.
 pub fn read_heading(
     alloc: Global,
@@ -76,22 +113,9 @@ pub fn read_heading(
             _ => Ok(HeadingAdvance::Wrong),
         },
         Heading::Typed(label) => typed(alloc, label, kind),
-        Heading::Titled(label, name) => match kind {
-            TokenKind::Semi => Ok(end(label, name, None)),
-            TokenKind::LBracket => Ok(HeadingAdvance::Goes(Heading::Sizing(label, name))),
-            _ => Ok(HeadingAdvance::Wrong),
-        },
-        Heading::Sizing(label, name) => match kind {
-            TokenKind::Num(value) => Ok(size(label, name, *value)),
-            _ => Ok(HeadingAdvance::Wrong),
-        },
-        Heading::Sized(label, name, length) => match kind {
-            TokenKind::RBracket => Ok(HeadingAdvance::Goes(Heading::Closing(label, name, length))),
-            _ => Ok(HeadingAdvance::Wrong),
-        },
-        Heading::Closing(label, name, length) => match kind {
-            TokenKind::Semi => Ok(end(label, name, Some(length))),
-            _ => Ok(HeadingAdvance::Wrong),
-        },
+        Heading::Titled(label, name) => Ok(titled(label, name, kind)),
+        Heading::Sizing(label, name) => Ok(sizing(label, name, kind)),
+        Heading::Sized(label, name, length) => Ok(sized(label, name, length, kind)),
+        Heading::Closing(label, name, length) => Ok(closing(label, name, length, kind)),
     }
 }
