@@ -17,7 +17,7 @@ use flow_types::type_program;
 use gr_base::Memory;
 use gr_word::{Shape, Want};
 use procs_parser::parse_procs;
-use run_data::{INPUT_BYTES, InputError, NameText, read_inputs};
+use run_data::{INPUT_BYTES, InputError, Name2, read_inputs};
 use src_lexer::{Token, lex};
 use src_parser::parse;
 use src_procs::inline_owned;

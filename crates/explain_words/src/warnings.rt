@@ -8,7 +8,7 @@ use crate::tokens::Tokens;
 use crate::warned_tokens::tokens_to_warn;
 use crate::words::Words;
 use gr_base::Memory;
-use src_lexer::TokenKind;
+use src_lexer::Kind;
 use std::alloc::Global;
 use std::collections::BTreeMap;
 
@@ -129,7 +129,7 @@ impl<'a> Tokens<'a> {
     /// The number at a token.
     pub(crate) fn number(&self, at: usize) -> Option<u64> {
         match self.kind(at)? {
-            TokenKind::Num(value) if *value >= 0 => Some(*value as u64),
+            Kind::Num(value) if *value >= 0 => Some(*value as u64),
             _ => None,
         }
     }
@@ -148,18 +148,18 @@ impl<'a> Tokens<'a> {
     fn warn_of_number(&self, at: usize, is_own: bool, count: &mut Count, out: &mut Words) {
         let next = at.saturating_add(1);
         match self.kind(at) {
-            Some(TokenKind::Slash) if self.number(next) == Some(0) => {
+            Some(Kind::Slash) if self.number(next) == Some(0) => {
                 if self.begin_warning(at, count, out) {
                     out.line("a division by 0 gives -1");
                 }
             }
-            Some(TokenKind::Percent) if self.number(next) == Some(0) => {
+            Some(Kind::Percent) if self.number(next) == Some(0) => {
                 if self.begin_warning(at, count, out) {
                     out.line("the remainder of a division by 0 is the dividend");
                 }
             }
-            Some(TokenKind::Shl | TokenKind::Shr) => self.warn_of_shift(at, count, out),
-            Some(TokenKind::LBracket) if is_own => self.warn_of_index(at, count, out),
+            Some(Kind::Shl | Kind::Shr) => self.warn_of_shift(at, count, out),
+            Some(Kind::LBracket) if is_own => self.warn_of_index(at, count, out),
             _ => {}
         }
     }
@@ -354,7 +354,7 @@ impl<'a> Variables<'a> {
     // The indexes of an array, with the one after the name at a token. An argument counts as any number of public ones.
     fn with_index(&self, tokens: Tokens<'a>, at: usize, indexes: Indexes) -> Indexes {
         let open = at.saturating_add(1);
-        if !matches!(tokens.kind(open), Some(TokenKind::LBracket)) {
+        if !matches!(tokens.kind(open), Some(Kind::LBracket)) {
             return Indexes {
                 public: u64::MAX,
                 ..indexes

@@ -15,7 +15,7 @@ use crate::reading::read_most;
 use crate::requests::is_manner;
 use crate::streams::StreamShelf;
 use call_replies::replies;
-use explain_words::Kind;
+use explain_words::FileKind;
 use ghost_cli::ghostrider;
 use gr_base::Memory;
 use gr_outside::{Shelf, Sink};
@@ -197,7 +197,7 @@ fn fault_of<'a>(words: &[&str], files: &NamedFiles<'_>) -> Option<Stop<'a>> {
 /// shelf keeps the reason, and `-` is missing.
 pub(crate) fn take_input<F: Shelf + Drop, I: Read>(
     alloc: Global,
-    kind: Option<Kind>,
+    kind: Option<FileKind>,
     shelf: &mut StreamShelf<F>,
     input: &mut I,
 ) -> Result<(), Memory>

@@ -7,7 +7,7 @@ ghost use Rattle.run_data.specs.Given.{given_view, given_values, entries_view, g
 
 use crate::errors::InputError;
 use crate::members::{Given, GivenMembers, Unread, read_text};
-use crate::texts::NameText;
+use crate::texts::Name2;
 use gr_word::{Inputs, Memory, Name, Shape, Want};
 use std::alloc::Global;
 
@@ -75,7 +75,7 @@ fn check_named(alloc: Global, wants: &[Want], name: &str, given: &Given) -> Resu
             return check_value(alloc, want, name, given);
         }
     }
-    Err(InputError::UnknownName(NameText::new(alloc, name)?))
+    Err(InputError::UnknownName(Name2::new(alloc, name)?))
 }
 
 /// Whether a value gives a variable words. The name is the variable's, as a text.
@@ -100,10 +100,10 @@ fn check_scalar(alloc: Global, want: &Want, name: &str, given: &Given) -> Result
         (λ e. e ≢ InputError.Memory → given_value_fault want.now (given_view given.now) ≡ Some e) }
 {
     let Given::Number(word) = given else {
-        return Err(InputError::WrongShape(NameText::new(alloc, name)?));
+        return Err(InputError::WrongShape(Name2::new(alloc, name)?));
     };
     if word.is_none() {
-        return Err(InputError::NotAWord(NameText::new(alloc, name)?));
+        return Err(InputError::NotAWord(Name2::new(alloc, name)?));
     }
     Ok(())
 }
@@ -117,13 +117,13 @@ fn check_array(alloc: Global, want: &Want, name: &str, given: &Given) -> Result<
         (λ e. e ≢ InputError.Memory → given_value_fault want.now (given_view given.now) ≡ Some e) }
 {
     let Given::Items(list) = given else {
-        return Err(InputError::WrongShape(NameText::new(alloc, name)?));
+        return Err(InputError::WrongShape(Name2::new(alloc, name)?));
     };
     if list.words.len() != want.length as usize {
-        return Err(InputError::WrongLength(NameText::new(alloc, name)?));
+        return Err(InputError::WrongLength(Name2::new(alloc, name)?));
     }
     if !list.are_words {
-        return Err(InputError::NotAWord(NameText::new(alloc, name)?));
+        return Err(InputError::NotAWord(Name2::new(alloc, name)?));
     }
     Ok(())
 }

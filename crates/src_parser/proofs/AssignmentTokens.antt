@@ -3,17 +3,17 @@ use Rattle.std.proofs.Common.{◌≡◌, ℕ, ◌+◌, ◌-◌, ◌<◌, ◌≤�
 use Rattle.std.proofs.Math.Seq.{take-add}
 use Rattle.std.proofs.lemmas.List.{length-append, length-map, length-take-le, map-append, take_all}
 use Rattle.src_lexer.specs.declared.tokens.Token.{Token}
-use Rattle.src_lexer.specs.declared.tokens.TokenKind.{TokenKind}
+use Rattle.src_lexer.specs.declared.tokens.Kind.{Kind}
 use Rattle.src_tree.specs.declared.trees.Decl.{Decl}
 use Rattle.src_tree.specs.Prelude.{Tree, Statement, SetVariable, SetElement}
 use Rattle.src_parser.specs.Prelude.{limits, operators, SpellsTree, Numeral, Named, Indexed, Bracketed, Negated, Joined, token_kinds, PartState, in_expression, Outer, Among, Ready, with_part, Advance, mapped, then_advance, advances, ParserState, Doing, programs, advanced, EndedBy, Adds, FoundExpression}
 use Rattle.src_parser.specs.Assignments.{Assigned}
 use Rattle.src_parser.proofs.TokenPlaces.{kinds_more}
 use Rattle.src_parser.proofs.PartRead.{PartRuns, variable_read, element_read}
-use Rattle.src_lexer.specs.declared.tokens.TokenKind.TheVariants as kind
+use Rattle.src_lexer.specs.declared.tokens.Kind.TheVariants as kind
 
 -- an expression has no more operators than tokens
-few_operators : {most depth level : ℕ} {tokens : List TokenKind} {tree : Tree} → SpellsTree most depth level tokens tree
+few_operators : {most depth level : ℕ} {tokens : List Kind} {tree : Tree} → SpellsTree most depth level tokens tree
     → operators tree ≤ length tokens
 few_operators (Numeral n) = omega arith
 few_operators (Named name) = omega arith
@@ -30,14 +30,14 @@ few_operators (Joined {left = left} {right = right} op sign low is a b) =
     let all = length-append left (sign ∷ right) in omega arith
 
 -- the kinds of some tokens and of the token after them
-pub kinds_with : (tokens : List Token) (i : ℕ) (token : Token) (k : TokenKind) → i < length tokens
+pub kinds_with : (tokens : List Token) (i : ℕ) (token : Token) (k : Kind) → i < length tokens
     → token ≡ get_or tokens i token → token.kind ≡ k
     → token_kinds (take (i + 1) tokens) ≡ token_kinds (take i tokens) ++ k ∷ []
 kinds_with tokens i token k h is same =
     kinds_more tokens i token h is ∙ ap (λ k. token_kinds (take i tokens) ++ k ∷ []) same
 
 -- an expression, and the token after it
-pub ended_by : (last : TokenKind) (tokens : List Token) (opened used count : ℕ) (tree : Tree)
+pub ended_by : (last : Kind) (tokens : List Token) (opened used count : ℕ) (tree : Tree)
     → FoundExpression tokens opened used tree count
     → token_kinds (take (count + 1) tokens) ≡ token_kinds (take count tokens) ++ last ∷ []
     → EndedBy last opened used (token_kinds (take (count + 1) tokens)) tree
@@ -47,7 +47,7 @@ ended_by last tokens opened used count tree found split = record {
   is = found.is;
 }
 
-few_before : (last : TokenKind) (opened used : ℕ) (tokens : List TokenKind) (tree : Tree)
+few_before : (last : Kind) (opened used : ℕ) (tokens : List Kind) (tree : Tree)
     → EndedBy last opened used tokens tree → operators tree ≤ length tokens
 few_before last opened used tokens tree e =
     let few = few_operators e.is.spells in
@@ -55,7 +55,7 @@ few_before last opened used tokens tree e =
     let all = length-append e.front (last ∷ []) in omega arith
 
 -- the parser's advance after a part of a statement
-abbrev part_read : List Decl → List (Outer Statement) → List Statement → PartState → List TokenKind
+abbrev part_read : List Decl → List (Outer Statement) → List Statement → PartState → List Kind
     → Advance ParserState
 part_read decls outer here s ks = advances advanced limits (Doing decls (with_part programs outer here s)) ks
 
@@ -70,7 +70,7 @@ part_runs decls outer here = record {
       (λ next. advances advanced limits next ks)) e;
 }
 
-variable_adds : (name : List ℕ) (tokens : List TokenKind) (value : Tree) → EndedBy kind.Semi 0 0 tokens value
+variable_adds : (name : List ℕ) (tokens : List Kind) (value : Tree) → EndedBy kind.Semi 0 0 tokens value
     → Adds (kind.Word name ∷ kind.Assign ∷ tokens) (SetVariable name value)
 variable_adds name tokens value e = record {
   leads = λ decls outer here. record {
@@ -83,14 +83,14 @@ variable_adds name tokens value e = record {
 }
 
 -- an assignment to a variable, with a copy of its name
-pub variable_at : (name copied : List ℕ) (tokens : List TokenKind) (value : Tree) (statement : Statement)
+pub variable_at : (name copied : List ℕ) (tokens : List Kind) (value : Tree) (statement : Statement)
     → copied ≡ name → statement ≡ SetVariable copied value → EndedBy kind.Semi 0 0 tokens value
     → Adds (kind.Word name ∷ kind.Assign ∷ tokens) statement
 variable_at name copied tokens value statement same is e =
     subst (λ s. Adds (kind.Word name ∷ kind.Assign ∷ tokens) s) (sym (is ∙ ap (λ n. SetVariable n value) same))
     (variable_adds name tokens value e)
 
-element_adds : (name : List ℕ) (at tokens : List TokenKind) (index value : Tree) (used : ℕ)
+element_adds : (name : List ℕ) (at tokens : List Kind) (index value : Tree) (used : ℕ)
     → EndedBy kind.RBracket 1 0 at index → EndedBy kind.Semi 0 used tokens value → operators index ≤ used
     → Adds (kind.Word name ∷ kind.LBracket ∷ (at ++ kind.Assign ∷ tokens)) (SetElement name index value)
 element_adds name at tokens index value used i e few = record {

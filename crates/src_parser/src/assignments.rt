@@ -2,7 +2,7 @@
 //! large. An assignment with an error is left to the reading token by token, which finds the first error.
 
 ghost use Rattle.std.specs.Prelude.{◌≡◌, List, ◌≤◌, ◌<◌, ◌+◌, ◌++◌, ◌∷◌, [], take, length, IfOk, IfSome, true};
-ghost use Rattle.src_lexer.specs.declared.tokens.TokenKind.TheVariants.{Word, Assign, LBracket, RBracket, Semi};
+ghost use Rattle.src_lexer.specs.declared.tokens.Kind.TheVariants.{Word, Assign, LBracket, RBracket, Semi};
 ghost use Rattle.src_tree.specs.Prelude.{expr_tree, statement_of, SetElement};
 ghost use Rattle.src_parser.specs.Assignments.{Adds, Assigned, EndedBy, Leads};
 ghost use Rattle.src_parser.specs.Expressions.{FoundExpression};
@@ -20,7 +20,7 @@ use crate::readings::MAX_OPERATORS;
 use crate::states::{Blocks, ParserState, Pause, Phase};
 use gr_base::Memory;
 use gr_word::Name;
-use src_lexer::{Token, TokenKind};
+use src_lexer::{Kind, Token};
 use src_tree::{Expr, Stmt};
 use std::alloc::Global;
 
@@ -51,7 +51,7 @@ fn is_bracket(tokens: &[Token], at: usize) -> bool
     if at >= tokens.len() {
         return false;
     }
-    matches!(tokens[at].kind, TokenKind::RBracket)
+    matches!(tokens[at].kind, Kind::RBracket)
 }
 
 // Whether the token of this number is a `;`.
@@ -64,7 +64,7 @@ fn is_semicolon(tokens: &[Token], at: usize) -> bool
     if at >= tokens.len() {
         return false;
     }
-    matches!(tokens[at].kind, TokenKind::Semi)
+    matches!(tokens[at].kind, Kind::Semi)
 }
 
 // The index that a `]` ends, and the number of tokens with the `]`. An index has no more operators than tokens, and one
@@ -105,10 +105,10 @@ fn value(alloc: Global, tokens: &[Token], used: u32) -> Result<Option<(Expr, usi
     Ok(Some((value, count + 1)))
 }
 
-fn assigns(kind: &TokenKind) -> bool
+fn assigns(kind: &Kind) -> bool
     ensures { result ≡ true → kind.now ≡ Assign }
 {
-    matches!(kind, TokenKind::Assign)
+    matches!(kind, Kind::Assign)
 }
 
 // The value between a `=` and a `;`, and the number of tokens with both.
@@ -173,7 +173,7 @@ fn element(alloc: Global, name: &Name, tokens: &[Token]) -> Result<Option<(Stmt,
 fn target(
     alloc: Global,
     name: &Name,
-    sign: &TokenKind,
+    sign: &Kind,
     tokens: &[Token],
 ) -> Result<Option<(Stmt, usize)>, Memory>
     ensures within { IfOk result (λ o. IfSome o (λ r. r.1 ≤ length tokens.now)) }
@@ -181,8 +181,8 @@ fn target(
         Adds (Word name.now ∷ sign.now ∷ token_kinds (take r.1 tokens.now)) (statement_of r.0))) }
 {
     match sign {
-        TokenKind::Assign => variable(alloc, name, tokens),
-        TokenKind::LBracket => element(alloc, name, tokens),
+        Kind::Assign => variable(alloc, name, tokens),
+        Kind::LBracket => element(alloc, name, tokens),
         _ => Ok(None),
     }
 }
@@ -195,7 +195,7 @@ fn assignment(alloc: Global, tokens: &[Token]) -> Result<Option<(Stmt, usize)>, 
 {
     match tokens {
         [word, sign, rest @ ..] => {
-            let TokenKind::Word(name) = &word.kind else {
+            let Kind::Word(name) = &word.kind else {
                 return Ok(None);
             };
             match target(alloc, name, &sign.kind, rest)? {

@@ -1,7 +1,7 @@
 ghost use Rattle.std.specs.Prelude.{◌≡◌, ◌<◌, ◌+◌, ◌-◌, ◌^◌, ◌∷◌, [], IfOk, pos, option_map};
 ghost use Rattle.src_tree.specs.Prelude.{expr_tree, Operation, Number, Element};
 ghost use Rattle.gr_word.specs.declared.operations.Op.TheVariants.{Sub};
-ghost use Rattle.src_lexer.specs.declared.tokens.TokenKind.TheVariants.{Num, LParen, LBracket, Minus};
+ghost use Rattle.src_lexer.specs.declared.tokens.Kind.TheVariants.{Num, LParen, LBracket, Minus};
 ghost use Rattle.src_parser.specs.Grammar.{limits, level_of, operator_of};
 ghost use Rattle.src_parser.specs.Operands.{tree_joined, wanting, pending, closing, having, naming, reads, whole, Moves, Stops, At, Joins, Wanted, Given, Open, Index};
 ghost use Rattle.src_parser.specs.Seen.{joint_of, stack_of, step_of, reading_of, frame_of};
@@ -12,26 +12,26 @@ use crate::readings::{
 };
 use gr_base::Memory;
 use gr_word::{Name, Op};
-use src_lexer::TokenKind;
+use src_lexer::Kind;
 use src_tree::Expr;
 use std::alloc::Global;
 use std::mem;
 
 // The operation of a sign between two operands.
-pub(crate) fn operator(kind: &TokenKind) -> Option<Op>
+pub(crate) fn operator(kind: &Kind) -> Option<Op>
     ensures { result ≡ operator_of kind.now }
 {
     match kind {
-        TokenKind::Plus => Some(Op::Add),
-        TokenKind::Minus => Some(Op::Sub),
-        TokenKind::Star => Some(Op::Mul),
-        TokenKind::Slash => Some(Op::Div),
-        TokenKind::Percent => Some(Op::Rem),
-        TokenKind::Amp => Some(Op::And),
-        TokenKind::Bar => Some(Op::Or),
-        TokenKind::Caret => Some(Op::Xor),
-        TokenKind::Shl => Some(Op::Shl),
-        TokenKind::Shr => Some(Op::Shr),
+        Kind::Plus => Some(Op::Add),
+        Kind::Minus => Some(Op::Sub),
+        Kind::Star => Some(Op::Mul),
+        Kind::Slash => Some(Op::Div),
+        Kind::Percent => Some(Op::Rem),
+        Kind::Amp => Some(Op::And),
+        Kind::Bar => Some(Op::Or),
+        Kind::Caret => Some(Op::Xor),
+        Kind::Shl => Some(Op::Shl),
+        Kind::Shr => Some(Op::Shr),
         _ => None,
     }
 }
@@ -157,19 +157,19 @@ fn number(reading: &mut Reading, value: i64) -> TokenStep
 }
 
 // Reads a token where an operand is expected.
-fn want(alloc: Global, reading: &mut Reading, kind: &TokenKind) -> Result<TokenStep, Memory>
+fn want(alloc: Global, reading: &mut Reading, kind: &Kind) -> Result<TokenStep, Memory>
     ensures { IfOk result (λ s. step_of s (reading_of reading.new)
         ≡ wanting limits (stack_of reading.old.stack.items) reading.old.depth reading.old.used kind.now) }
 {
     match kind {
-        TokenKind::Num(value) => Ok(number(reading, *value)),
-        TokenKind::Word(name) => {
+        Kind::Num(value) => Ok(number(reading, *value)),
+        Kind::Word(name) => {
             let name = name.copy(alloc)?;
             put(&mut reading.operand, OperandState::Named(name));
             Ok(TokenStep::Moves)
         }
-        TokenKind::LParen => bracket(reading),
-        TokenKind::Minus => sign(reading),
+        Kind::LParen => bracket(reading),
+        Kind::Minus => sign(reading),
         _ => {
             put(&mut reading.operand, OperandState::Wanted);
             Ok(TokenStep::Stops)
@@ -233,7 +233,7 @@ fn element(alloc: Global, name: Name, index: Expr) -> Result<Expr, Memory>
 // Reads a token that isn't an operator after an operand in a bracket.
 fn close_bracket(
     reading: &mut Reading,
-    kind: &TokenKind,
+    kind: &Kind,
     stack: Vec<Waiting>,
     before: u32,
     depth: u32,
@@ -243,7 +243,7 @@ fn close_bracket(
         ≡ closing reading.old.used kind.now (Joins (Open before ∷ stack_of stack.items) (expr_tree tree) depth)) }
 {
     match kind {
-        TokenKind::RParen => {
+        Kind::RParen => {
             give(reading, stack, before, tree);
             Ok(TokenStep::Moves)
         }
@@ -255,7 +255,7 @@ fn close_bracket(
 fn close_index(
     alloc: Global,
     reading: &mut Reading,
-    kind: &TokenKind,
+    kind: &Kind,
     stack: Vec<Waiting>,
     before: u32,
     name: Name,
@@ -266,7 +266,7 @@ fn close_index(
         ≡ closing reading.old.used kind.now (Joins (Index before name ∷ stack_of stack.items) (expr_tree tree) depth)) }
 {
     match kind {
-        TokenKind::RBracket => {
+        Kind::RBracket => {
             give(reading, stack, before, element(alloc, name, tree)?);
             Ok(TokenStep::Moves)
         }
@@ -278,7 +278,7 @@ fn close_index(
 fn close(
     alloc: Global,
     reading: &mut Reading,
-    kind: &TokenKind,
+    kind: &Kind,
     joint: Joint,
 ) -> Result<TokenStep, Memory>
     ensures { IfOk result (λ s. step_of s (reading_of reading.new)
@@ -322,7 +322,7 @@ fn conclude(
     alloc: Global,
     reading: &mut Reading,
     tree: Expr,
-    kind: &TokenKind,
+    kind: &Kind,
 ) -> Result<TokenStep, Memory>
     ensures { IfOk result (λ s. step_of s (reading_of reading.new)
         ≡ closing reading.old.used kind.now
@@ -338,12 +338,7 @@ fn conclude(
 }
 
 // Reads a token after an operand.
-fn have(
-    alloc: Global,
-    reading: &mut Reading,
-    tree: Expr,
-    kind: &TokenKind,
-) -> Result<TokenStep, Memory>
+fn have(alloc: Global, reading: &mut Reading, tree: Expr, kind: &Kind) -> Result<TokenStep, Memory>
     ensures { IfOk result (λ s. step_of s (reading_of reading.new)
         ≡ having limits (stack_of reading.old.stack.items) reading.old.depth reading.old.used (expr_tree tree) kind.now
         (operator_of kind.now)) }
@@ -370,13 +365,13 @@ fn behind_name(
     alloc: Global,
     reading: &mut Reading,
     name: Name,
-    kind: &TokenKind,
+    kind: &Kind,
 ) -> Result<TokenStep, Memory>
     ensures { IfOk result (λ s. step_of s (reading_of reading.new)
         ≡ naming limits (stack_of reading.old.stack.items) reading.old.depth reading.old.used name kind.now) }
 {
     match kind {
-        TokenKind::LBracket => index(reading, name),
+        Kind::LBracket => index(reading, name),
         _ => have(alloc, reading, Expr::Var(name), kind),
     }
 }
@@ -397,7 +392,7 @@ pub fn fresh(alloc: Global, depth: u32, used: u32) -> Reading
 /// Reads the next token of an expression. The token is read, or the expression ends before it, or it exceeds a limit of
 /// nesting. After a limit was exceeded the reading is of no use; nor is it after `Memory`, which says nothing about the
 /// tokens.
-pub fn read(alloc: Global, reading: &mut Reading, kind: &TokenKind) -> Result<TokenStep, Memory>
+pub fn read(alloc: Global, reading: &mut Reading, kind: &Kind) -> Result<TokenStep, Memory>
     ensures { IfOk result (λ s. step_of s (reading_of reading.new) ≡ reads limits (reading_of reading.old) kind.now) }
 {
     match mem::replace(&mut reading.operand, OperandState::Wanted) {

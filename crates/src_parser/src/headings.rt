@@ -1,12 +1,12 @@
 ghost use Rattle.std.specs.Prelude.{◌≡◌, IfOk};
-ghost use Rattle.src_lexer.specs.declared.tokens.TokenKind.TheVariants.{Num};
+ghost use Rattle.src_lexer.specs.declared.tokens.Kind.TheVariants.{Num};
 ghost use Rattle.src_parser.specs.Headings.{declared, heading_advanced, Closing, Declared, Sized, Sizing, Titled, Typed};
 ghost use Rattle.src_parser.specs.Seen.{heading_of, heading_advance_of};
 ghost use Rattle.src_parser.specs.Tokenwise.{Goes};
 
 use gr_base::Memory;
 use gr_word::{Label, Name};
-use src_lexer::TokenKind;
+use src_lexer::Kind;
 use src_tree::Decl;
 use std::alloc::Global;
 
@@ -50,11 +50,11 @@ fn size(label: Label, name: Name, value: i64) -> HeadingAdvance
     HeadingAdvance::Goes(Heading::Sized(label, name, value as u64))
 }
 
-fn typed(alloc: Global, label: Label, kind: &TokenKind) -> Result<HeadingAdvance, Memory>
+fn typed(alloc: Global, label: Label, kind: &Kind) -> Result<HeadingAdvance, Memory>
     ensures { IfOk result (λ t. heading_advance_of t ≡ heading_advanced (Typed label) kind.now) }
 {
     match kind {
-        TokenKind::Word(name) => {
+        Kind::Word(name) => {
             let name = name.copy(alloc)?;
             Ok(HeadingAdvance::Goes(Heading::Titled(label, name)))
         }
@@ -62,54 +62,50 @@ fn typed(alloc: Global, label: Label, kind: &TokenKind) -> Result<HeadingAdvance
     }
 }
 
-fn titled(label: Label, name: Name, kind: &TokenKind) -> HeadingAdvance
+fn titled(label: Label, name: Name, kind: &Kind) -> HeadingAdvance
     ensures { heading_advance_of result ≡ heading_advanced (Titled label name) kind.now }
 {
     match kind {
-        TokenKind::Semi => end(label, name, None),
-        TokenKind::LBracket => HeadingAdvance::Goes(Heading::Sizing(label, name)),
+        Kind::Semi => end(label, name, None),
+        Kind::LBracket => HeadingAdvance::Goes(Heading::Sizing(label, name)),
         _ => HeadingAdvance::Wrong,
     }
 }
 
-fn sizing(label: Label, name: Name, kind: &TokenKind) -> HeadingAdvance
+fn sizing(label: Label, name: Name, kind: &Kind) -> HeadingAdvance
     ensures { heading_advance_of result ≡ heading_advanced (Sizing label name) kind.now }
 {
     match kind {
-        TokenKind::Num(value) => size(label, name, *value),
+        Kind::Num(value) => size(label, name, *value),
         _ => HeadingAdvance::Wrong,
     }
 }
 
-fn sized(label: Label, name: Name, length: u64, kind: &TokenKind) -> HeadingAdvance
+fn sized(label: Label, name: Name, length: u64, kind: &Kind) -> HeadingAdvance
     ensures { heading_advance_of result ≡ heading_advanced (Sized label name length) kind.now }
 {
     match kind {
-        TokenKind::RBracket => HeadingAdvance::Goes(Heading::Closing(label, name, length)),
+        Kind::RBracket => HeadingAdvance::Goes(Heading::Closing(label, name, length)),
         _ => HeadingAdvance::Wrong,
     }
 }
 
-fn closing(label: Label, name: Name, length: u64, kind: &TokenKind) -> HeadingAdvance
+fn closing(label: Label, name: Name, length: u64, kind: &Kind) -> HeadingAdvance
     ensures { heading_advance_of result ≡ heading_advanced (Closing label name length) kind.now }
 {
     match kind {
-        TokenKind::Semi => end(label, name, Some(length)),
+        Kind::Semi => end(label, name, Some(length)),
         _ => HeadingAdvance::Wrong,
     }
 }
 
 /// Reads the next token of a declaration. `Memory` says nothing about the tokens.
-pub fn read_heading(
-    alloc: Global,
-    heading: Heading,
-    kind: &TokenKind,
-) -> Result<HeadingAdvance, Memory>
+pub fn read_heading(alloc: Global, heading: Heading, kind: &Kind) -> Result<HeadingAdvance, Memory>
     ensures { IfOk result (λ t. heading_advance_of t ≡ heading_advanced (heading_of heading) kind.now) }
 {
     match heading {
         Heading::Labelled(label) => match kind {
-            TokenKind::Int => Ok(HeadingAdvance::Goes(Heading::Typed(label))),
+            Kind::Int => Ok(HeadingAdvance::Goes(Heading::Typed(label))),
             _ => Ok(HeadingAdvance::Wrong),
         },
         Heading::Typed(label) => typed(alloc, label, kind),

@@ -19,7 +19,7 @@ use crate::statements::{begin, complete, perform};
 use crate::states::{Advance, Blocks, ParserState, Pause, Phase};
 use gr_base::Memory;
 use gr_word::Label;
-use src_lexer::{Token, TokenKind};
+use src_lexer::{Kind, Token};
 use src_tree::{Decl, Program, Stmt};
 use std::alloc::Global;
 use std::mem;
@@ -30,7 +30,7 @@ fn start(
     alloc: Global,
     state: &mut ParserState,
     decls: Vec<Decl>,
-    kind: &TokenKind,
+    kind: &Kind,
 ) -> Result<Advance, Memory>
     ensures { IfOk result (λ t. advance_of t (state_of state.new)
         ≡ mapped (Doing decls.items) (between_statements programs [] [] kind.now)) }
@@ -50,19 +50,19 @@ fn begin_declaration(
     alloc: Global,
     state: &mut ParserState,
     decls: Vec<Decl>,
-    kind: &TokenKind,
+    kind: &Kind,
 ) -> Result<Advance, Memory>
     ensures { IfOk result (λ t. advance_of t (state_of state.new) ≡ between decls.items kind.now) }
 {
     match kind {
-        TokenKind::Public => {
+        Kind::Public => {
             put(
                 state,
                 ParserState::Declaring(decls, Heading::Labelled(Label::Public)),
             );
             Ok(Advance::Goes)
         }
-        TokenKind::Secret => {
+        Kind::Secret => {
             put(
                 state,
                 ParserState::Declaring(decls, Heading::Labelled(Label::Secret)),
@@ -88,7 +88,7 @@ fn declare(
     state: &mut ParserState,
     decls: Vec<Decl>,
     heading: Heading,
-    kind: &TokenKind,
+    kind: &Kind,
 ) -> Result<Advance, Memory>
     ensures { IfOk result (λ t. advance_of t (state_of state.new)
         ≡ advanced limits (Declaring decls.items (heading_of heading)) kind.now) }
@@ -108,7 +108,7 @@ fn declare(
 
 // Reads the next token of a program.
 #[tactic(auto, using(crate::proofs::ProgramSteps::in_program))]
-fn take(alloc: Global, state: &mut ParserState, kind: &TokenKind) -> Result<Advance, Memory>
+fn take(alloc: Global, state: &mut ParserState, kind: &Kind) -> Result<Advance, Memory>
     ensures { IfOk result (λ t. advance_of t (state_of state.new) ≡ advanced limits (state_of state.old) kind.now) }
 {
     match state {

@@ -9,7 +9,7 @@ use crate::putting::put;
 use crate::readings::{Reading, TokenStep};
 use gr_base::Memory;
 use gr_word::{Cmp, Name};
-use src_lexer::TokenKind;
+use src_lexer::Kind;
 use src_tree::{Expr, Guard};
 use std::alloc::Global;
 use std::mem;
@@ -66,30 +66,30 @@ pub enum PartAdvance {
 }
 
 // The comparison of a sign.
-fn comparison(kind: &TokenKind) -> Option<Cmp>
+fn comparison(kind: &Kind) -> Option<Cmp>
     ensures { result ≡ comparison_of kind.now }
 {
     match kind {
-        TokenKind::Eq => Some(Cmp::Eq),
-        TokenKind::Ne => Some(Cmp::Ne),
-        TokenKind::Lt => Some(Cmp::Lt),
-        TokenKind::Le => Some(Cmp::Le),
-        TokenKind::Gt => Some(Cmp::Gt),
-        TokenKind::Ge => Some(Cmp::Ge),
+        Kind::Eq => Some(Cmp::Eq),
+        Kind::Ne => Some(Cmp::Ne),
+        Kind::Lt => Some(Cmp::Lt),
+        Kind::Le => Some(Cmp::Le),
+        Kind::Gt => Some(Cmp::Gt),
+        Kind::Ge => Some(Cmp::Ge),
         _ => None,
     }
 }
 
 // Reads a token after the name in an assignment.
-fn name_on(alloc: Global, part: &mut Part, name: Name, kind: &TokenKind) -> PartAdvance
+fn name_on(alloc: Global, part: &mut Part, name: Name, kind: &Kind) -> PartAdvance
     ensures { part_advance_of result (part_of part.new) ≡ targeting name kind.now }
 {
     match kind {
-        TokenKind::Assign => {
+        Kind::Assign => {
             put(part, Part::Inside(Asked::Value(name), fresh(alloc, 0, 0)));
             PartAdvance::Moves
         }
-        TokenKind::LBracket => {
+        Kind::LBracket => {
             put(part, Part::Inside(Asked::Place(name), fresh(alloc, 1, 0)));
             PartAdvance::Moves
         }
@@ -104,12 +104,12 @@ fn index_on(
     name: Name,
     index: Expr,
     used: u32,
-    kind: &TokenKind,
+    kind: &Kind,
 ) -> PartAdvance
     ensures { part_advance_of result (part_of part.new) ≡ placing name (expr_tree index) used kind.now }
 {
     match kind {
-        TokenKind::Assign => {
+        Kind::Assign => {
             put(
                 part,
                 Part::Inside(Asked::Stored(name, index), fresh(alloc, 0, used)),
@@ -121,11 +121,11 @@ fn index_on(
 }
 
 // Reads a token after the keyword of a guard.
-fn guard_on(alloc: Global, part: &mut Part, form: Form, kind: &TokenKind) -> PartAdvance
+fn guard_on(alloc: Global, part: &mut Part, form: Form, kind: &Kind) -> PartAdvance
     ensures { part_advance_of result (part_of part.new) ≡ guarding (form_of form) kind.now }
 {
     match kind {
-        TokenKind::LParen => {
+        Kind::LParen => {
             put(part, Part::Inside(Asked::Left(form), fresh(alloc, 0, 0)));
             PartAdvance::Moves
         }
@@ -134,7 +134,7 @@ fn guard_on(alloc: Global, part: &mut Part, form: Form, kind: &TokenKind) -> Par
 }
 
 // Reads a token before an expression.
-fn lead_on(alloc: Global, part: &mut Part, lead: Lead, kind: &TokenKind) -> PartAdvance
+fn lead_on(alloc: Global, part: &mut Part, lead: Lead, kind: &Kind) -> PartAdvance
     ensures { part_advance_of result (part_of part.new) ≡ part_advanced limits (lead_of lead) kind.now }
 {
     match lead {
@@ -151,7 +151,7 @@ fn compare(
     form: Form,
     left: Expr,
     used: u32,
-    kind: &TokenKind,
+    kind: &Kind,
 ) -> PartAdvance
     ensures { part_advance_of result (part_of part.new)
         ≡ comparing (form_of form) (expr_tree left) used (comparison_of kind.now) }
@@ -169,23 +169,23 @@ fn compare(
 }
 
 // Reads a token after the value of a variable.
-fn end_variable(name: Name, value: Expr, kind: &TokenKind) -> PartAdvance
+fn end_variable(name: Name, value: Expr, kind: &Kind) -> PartAdvance
     ensures { (part : Part) (used : ℕ)
         → part_advance_of result (part_of part) ≡ behind_expression (Value name) (expr_tree value) used kind.now }
 {
     match kind {
-        TokenKind::Semi => PartAdvance::Ends(Made::Variable(name, value)),
+        Kind::Semi => PartAdvance::Ends(Made::Variable(name, value)),
         _ => PartAdvance::Wrong,
     }
 }
 
 // Reads a token after the index of an element.
-fn end_index(part: &mut Part, name: Name, index: Expr, used: u32, kind: &TokenKind) -> PartAdvance
+fn end_index(part: &mut Part, name: Name, index: Expr, used: u32, kind: &Kind) -> PartAdvance
     ensures { part_advance_of result (part_of part.new)
         ≡ behind_expression (Place name) (expr_tree index) used kind.now }
 {
     match kind {
-        TokenKind::RBracket => {
+        Kind::RBracket => {
             put(part, Part::Before(Lead::Placed(name, index, used)));
             PartAdvance::Moves
         }
@@ -194,23 +194,23 @@ fn end_index(part: &mut Part, name: Name, index: Expr, used: u32, kind: &TokenKi
 }
 
 // Reads a token after the value of an element.
-fn end_element(name: Name, index: Expr, value: Expr, kind: &TokenKind) -> PartAdvance
+fn end_element(name: Name, index: Expr, value: Expr, kind: &Kind) -> PartAdvance
     ensures { (part : Part) (used : ℕ) → part_advance_of result (part_of part)
         ≡ behind_expression (Stored name (expr_tree index)) (expr_tree value) used kind.now }
 {
     match kind {
-        TokenKind::Semi => PartAdvance::Ends(Made::Element(name, index, value)),
+        Kind::Semi => PartAdvance::Ends(Made::Element(name, index, value)),
         _ => PartAdvance::Wrong,
     }
 }
 
 // Reads a token after the right side of a guard.
-fn end_guard(form: Form, cmp: Cmp, left: Expr, right: Expr, kind: &TokenKind) -> PartAdvance
+fn end_guard(form: Form, cmp: Cmp, left: Expr, right: Expr, kind: &Kind) -> PartAdvance
     ensures { (part : Part) (used : ℕ) → part_advance_of result (part_of part)
         ≡ behind_expression (Right (form_of form) cmp (expr_tree left)) (expr_tree right) used kind.now }
 {
     match kind {
-        TokenKind::RParen => PartAdvance::Ends(Made::Guard(form, Guard { cmp, left, right })),
+        Kind::RParen => PartAdvance::Ends(Made::Guard(form, Guard { cmp, left, right })),
         _ => PartAdvance::Wrong,
     }
 }
@@ -222,7 +222,7 @@ fn end(
     asked: Asked,
     tree: Expr,
     used: u32,
-    kind: &TokenKind,
+    kind: &Kind,
 ) -> PartAdvance
     ensures { part_advance_of result (part_of part.new)
         ≡ behind_expression (asked_seen asked) (expr_tree tree) used kind.now }
@@ -243,7 +243,7 @@ fn end_if_whole(
     asked: Asked,
     tree: Option<Expr>,
     used: u32,
-    kind: &TokenKind,
+    kind: &Kind,
 ) -> PartAdvance
     ensures { part_advance_of result (part_of part.new)
         ≡ ending_where (asked_seen asked) (option_map expr_tree tree) used kind.now }
@@ -255,7 +255,7 @@ fn end_if_whole(
 }
 
 /// Reads the next token of a part. `Memory` says nothing about the tokens.
-pub fn read_part(alloc: Global, part: &mut Part, kind: &TokenKind) -> Result<PartAdvance, Memory>
+pub fn read_part(alloc: Global, part: &mut Part, kind: &Kind) -> Result<PartAdvance, Memory>
     ensures { IfOk result (λ t. part_advance_of t (part_of part.new) ≡ part_advanced limits (part_of part.old) kind.now) }
 {
     match part {

@@ -12,7 +12,7 @@ use crate::putting::{push, put, take_list};
 use crate::states::{Advance, Blocks, MAX_BRACES, Outer, Pause, Phase};
 use gr_base::Memory;
 use gr_word::Name;
-use src_lexer::TokenKind;
+use src_lexer::Kind;
 use src_tree::Guard;
 use std::alloc::Global;
 use std::mem;
@@ -85,33 +85,33 @@ pub fn begin<L: Language>(
     alloc: Global,
     blocks: &mut Blocks<L::Stmt>,
     phase: &mut Phase<L::Stmt>,
-    kind: &TokenKind,
+    kind: &Kind,
 ) -> Result<Advance, Memory>
     ensures { IfOk result (λ t. advance_of t (among L.seen blocks.new (phase_of L.seen phase.new))
         ≡ between_statements L.makers (outers_of L.seen blocks.old.outer.items)
         (map L.seen blocks.old.here.items) kind.now) }
 {
     match kind {
-        TokenKind::Word(name) => {
+        Kind::Word(name) => {
             let part = target(alloc, name)?;
             put(phase, Phase::InPart(part));
             Ok(Advance::Goes)
         }
-        TokenKind::If => {
+        Kind::If => {
             put(
                 phase,
                 Phase::InPart(Part::Before(Lead::Guarding(Form::Choice))),
             );
             Ok(Advance::Goes)
         }
-        TokenKind::While => {
+        Kind::While => {
             put(
                 phase,
                 Phase::InPart(Part::Before(Lead::Guarding(Form::Loop))),
             );
             Ok(Advance::Goes)
         }
-        TokenKind::RBrace => leave::<L>(blocks, phase),
+        Kind::RBrace => leave::<L>(blocks, phase),
         _ => Ok(Advance::Wrong),
     }
 }
@@ -138,7 +138,7 @@ fn end_choice<L: Language>(
     phase: &mut Phase<L::Stmt>,
     guard: Guard,
     first: Vec<L::Stmt>,
-    kind: &TokenKind,
+    kind: &Kind,
 ) -> Result<Advance, Memory>
     ensures { IfOk result (λ t. advance_of t (among L.seen blocks.new (phase_of L.seen phase.new))
         ≡ between_statements L.makers (outers_of L.seen blocks.old.outer.items)
@@ -155,14 +155,14 @@ fn may_else<L: Language>(
     phase: &mut Phase<L::Stmt>,
     guard: Guard,
     first: Vec<L::Stmt>,
-    kind: &TokenKind,
+    kind: &Kind,
 ) -> Result<Advance, Memory>
     ensures { IfOk result (λ t. advance_of t (among L.seen blocks.new (phase_of L.seen phase.new))
         ≡ elsing L.makers (outers_of L.seen blocks.old.outer.items) (map L.seen blocks.old.here.items)
         (test_of guard) (map L.seen first.items) kind.now) }
 {
     match kind {
-        TokenKind::Else => {
+        Kind::Else => {
             put(phase, Phase::Between(Pause::Otherwise(guard, first)));
             Ok(Advance::Goes)
         }
@@ -255,14 +255,14 @@ fn enter<L: Language>(
     phase: &mut Phase<L::Stmt>,
     form: Form,
     guard: Guard,
-    kind: &TokenKind,
+    kind: &Kind,
 ) -> Result<Advance, Memory>
     ensures { IfOk result (λ t. advance_of t (among L.seen blocks.new (phase_of L.seen phase.new))
         ≡ entering limits outside (outers_of L.seen blocks.old.outer.items)
         (map L.seen blocks.old.here.items) (form_of form) (test_of guard) kind.now) }
 {
     match kind {
-        TokenKind::LBrace => {
+        Kind::LBrace => {
             let before = mem::replace(&mut blocks.here, Vec::new(alloc));
             nest::<L>(
                 alloc,
@@ -287,14 +287,14 @@ fn other<L: Language>(
     phase: &mut Phase<L::Stmt>,
     guard: Guard,
     first: Vec<L::Stmt>,
-    kind: &TokenKind,
+    kind: &Kind,
 ) -> Result<Advance, Memory>
     ensures { IfOk result (λ t. advance_of t (among L.seen blocks.new (phase_of L.seen phase.new))
         ≡ otherwise limits outside (outers_of L.seen blocks.old.outer.items)
         (map L.seen blocks.old.here.items) (test_of guard) (map L.seen first.items) kind.now) }
 {
     match kind {
-        TokenKind::LBrace => {
+        Kind::LBrace => {
             let before = mem::replace(&mut blocks.here, Vec::new(alloc));
             nest::<L>(
                 alloc,
@@ -318,7 +318,7 @@ fn go_on<L: Language>(
     blocks: &mut Blocks<L::Stmt>,
     phase: &mut Phase<L::Stmt>,
     pause: Pause<L::Stmt>,
-    kind: &TokenKind,
+    kind: &Kind,
 ) -> Result<Advance, Memory>
     ensures { IfOk result (λ t. advance_of t (among L.seen blocks.new (phase_of L.seen phase.new))
         ≡ does L.makers limits outside (outers_of L.seen blocks.old.outer.items) (map L.seen blocks.old.here.items)
@@ -342,7 +342,7 @@ pub fn perform<L: Language>(
     outside: usize,
     blocks: &mut Blocks<L::Stmt>,
     phase: &mut Phase<L::Stmt>,
-    kind: &TokenKind,
+    kind: &Kind,
 ) -> Result<Advance, Memory>
     ensures { IfOk result (λ t. advance_of t (among L.seen blocks.new (phase_of L.seen phase.new))
         ≡ does L.makers limits outside (outers_of L.seen blocks.old.outer.items) (map L.seen blocks.old.here.items)

@@ -1,6 +1,6 @@
 use Rattle.std.proofs.Common.{◌-◌, ◌∷◌, drop, length, take, subst}
 use Rattle.std.specs.Prelude.{IfSome}
-use Rattle.src_lexer.specs.declared.tokens.TokenKind.TheVariants.{Word}
+use Rattle.src_lexer.specs.declared.tokens.Kind.TheVariants.{Word}
 use Rattle.src_tree.specs.Prelude.{statement_of}
 use Rattle.src_parser.specs.Prelude.{Adds, token_kinds}
 use Rattle.src_parser.proofs.AssignmentTokens.{assignment_at}

@@ -1,6 +1,6 @@
 use Rattle.std.proofs.Common.{◌≤◌, length, take, subst}
 use Rattle.std.specs.Prelude.{IfSome}
-use Rattle.src_lexer.specs.declared.tokens.TokenKind.TheVariants.{RBracket}
+use Rattle.src_lexer.specs.declared.tokens.Kind.TheVariants.{RBracket}
 use Rattle.src_tree.specs.Prelude.{expr_tree, statement_of}
 use Rattle.src_parser.specs.Assignments.{Assigned}
 use Rattle.src_parser.specs.Prelude.{EndedBy, token_kinds}
