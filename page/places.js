@@ -88,11 +88,11 @@ const Places = (() => {
 
   // The explanations are those of the command. On the page its options are under Options, and it has no other verbs.
   const ON_THE_PAGE = [
-    [/Give it more by --cycles N/, 'Allow more under Options'],
-    [/, or ask for greater blocks by --block-log\./, ', or choose larger blocks under Options.'],
-    [/ The verb `infer` writes [^.]*\./, ''],
-    [/,? by `(?:tail|tr) [^`]*`/, ''],
-    [/A call needs the option --procs, and a procedure/, 'A call needs a procedure'],
+    [/Raise it with --cycles N/, 'Raise it under Options'],
+    [/, or choose larger blocks with --block-log\./, ', or choose larger blocks under Options.'],
+    [/ `infer` writes [^.]*\./, ''],
+    [/,? with `(?:tail|tr) [^`]*`/, ''],
+    [/A call needs the option --procs, and an earlier procedure/, 'A call needs an earlier procedure'],
     [/Procedures need the option --procs: /, 'A procedure is written '],
     [/, and needs the option --procs\./, '.'],
   ];

@@ -120,5 +120,5 @@ def calls(tool):
             ('so a name there may begin with a hyphen', ['check', '--', '-x'], 'fault 3 read -x'),
             ('is rejected with status 4', ['dis', 'made.obj', '/dev/stdout'], 'fault 4 write /dev/stdout'),
             ('The null device may be both', ['dis', 'made.obj', '/dev/null'], 'disassembled'),
-            ("If a word isn't valid UTF-8", ['check', b'\xff'], 'fault 2 usage')):
+            ("It ends without a line if a word isn't valid UTF-8", ['check', b'\xff'], '')):
         yield words, tool.call(*asked), line

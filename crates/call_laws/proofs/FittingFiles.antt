@@ -4,7 +4,7 @@ use Rattle.std.specs.Prelude.{All, IsTrue, bytes_eq, if◌then◌else◌}
 use Rattle.std.proofs.lemmas.List.Elements.{All-append, All-cons, All-nil}
 use Rattle.gr_word.specs.Prelude.{is_name}
 use Rattle.gr_word.specs.declared.variables.Label.{Label}
-use Rattle.src_lexer.specs.declared.tokens.TokenKind.{TokenKind}
+use Rattle.src_lexer.specs.declared.tokens.Kind.{Kind}
 use Rattle.src_tree.specs.declared.trees.Decl.{Decl}
 use Rattle.src_tree.specs.Prelude.{Tree, Number, Variable, Element, Operation}
 use Rattle.src_parser.specs.Prelude.{Limits}
@@ -18,7 +18,7 @@ use Rattle.block_cache_gen.specs.Prelude.{BlockHasWords, HasWords, TestHasWords}
 use Rattle.call_laws.proofs.FittingPrograms.{ProgramFits, decls-named, left-fit, right-fit, test-words, tree-words, zero-word}
 use Rattle.call_laws.proofs.FittingTokens.{AllFit}
 use mathlib.Core.List.{reverse-cons}
-use Rattle.src_lexer.specs.declared.tokens.TokenKind.TheVariants as kind
+use Rattle.src_lexer.specs.declared.tokens.Kind.TheVariants as kind
 use Rattle.src_tree.specs.Trees as plain
 
 abbrev EachHasWords : List Tree → Type 0
@@ -43,19 +43,19 @@ ProceduresFit (p ∷ ps) = BlockFits p.body × ProceduresFit ps
 
 -- ---- by the grammar
 
-trees-words : {most : ℕ} {ks : List TokenKind} {es : List Tree} → SpellsTrees most ks es → AllFit ks → EachHasWords es
+trees-words : {most : ℕ} {ks : List Kind} {es : List Tree} → SpellsTrees most ks es → AllFit ks → EachHasWords es
 trees-words (Last s) all = (tree-words s all, tt)
 trees-words (Before {tokens = tokens} {rest = rest} s more) all = (
   tree-words s (left-fit tokens (kind.Semi ∷ rest) all),
   trees-words more (right-fit tokens (kind.Semi ∷ rest) all).1,
 )
 
-arguments-words : {most : Limits} {ks : List TokenKind} {es : List Tree} → Arguments most ks es → AllFit ks
+arguments-words : {most : Limits} {ks : List Kind} {es : List Tree} → Arguments most ks es → AllFit ks
     → EachHasWords es
 arguments-words NoArgument all = tt
 arguments-words (Given s few) all = trees-words s all
 
-block-fits : {most : Limits} {depth : ℕ} {ks : List TokenKind} {b : Block} → SpellsBlock most depth ks b → AllFit ks
+block-fits : {most : Limits} {depth : ℕ} {ks : List Kind} {b : Block} → SpellsBlock most depth ks b → AllFit ks
     → BlockFits b
 block-fits Ends all = tt
 block-fits (Sets {tokens = tokens} {rest = rest} name s few w) all =
@@ -97,7 +97,7 @@ block-fits (Repeats {guard = guard} {tokens = tokens} {rest = rest} g room body 
       block-fits w (right-fit tokens (kind.RBrace ∷ rest) parts).1,
     )
 
-procedures-fit : {most : Limits} {ks : List TokenKind} {ps : List Procedure} → Procedures most ks ps → AllFit ks
+procedures-fit : {most : Limits} {ks : List Kind} {ps : List Procedure} → Procedures most ks ps → AllFit ks
     → ProceduresFit ps
 procedures-fit NoProcedure all = tt
 procedures-fit (AProcedure {ps = ps} {ls = ls} {body = body} {rest = rest} name parameters room locals w more) all =
@@ -206,7 +206,7 @@ added-named next (label ∷ labels) few =
     All-cons IsNamed _ (added (next + 1) labels) (new_name_fits next (omega (arith, few)))
     (added-named (next + 1) labels (omega (arith, few)))
 
-pub file-fits : {most : Limits} {ks : List TokenKind} {f : File} → SpellsFile most ks f
+pub file-fits : {most : Limits} {ks : List Kind} {f : File} → SpellsFile most ks f
     → ((e : InlineError) → IsFirstCallFault f e → ⊥) → AllFit ks → ProgramFits (inlined_file f)
 file-fits (AFile {front = front} {middle = middle} {back = back} {decls = decls} {procedures = procedures} {body = body}
     shown d ps w) faultless all =

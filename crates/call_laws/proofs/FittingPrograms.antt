@@ -4,27 +4,27 @@ use Rattle.std.specs.Prelude.{All, IsTrue}
 use Rattle.std.proofs.lemmas.List.Elements.{All-cons, All-nil}
 use Rattle.gr_word.specs.Prelude.{is_name, IsWord}
 use Rattle.gr_word.specs.declared.variables.Label.TheVariants.{Public, Secret}
-use Rattle.src_lexer.specs.declared.tokens.TokenKind.{TokenKind}
+use Rattle.src_lexer.specs.declared.tokens.Kind.{Kind}
 use Rattle.src_tree.specs.declared.trees.Decl.{Decl}
 use Rattle.src_tree.specs.Prelude.{Block, Source, Test, Tree}
 use Rattle.src_parser.specs.Prelude.{Limits, SpellsTree, Numeral, Named, Indexed, Bracketed, Negated, Joined, Compares, Compared, Writes, Ends, Sets, Puts, Chooses, ChoosesElse, Repeats, Declares, NoMore, Scalar, Array, Sentence, Program}
 use Rattle.block_cache_gen.specs.Prelude.{BlockHasWords, HasWords, TestHasWords}
 use Rattle.block_cache_gen.proofs.RangesOfCode.{small-word}
 use Rattle.call_laws.proofs.FittingTokens.{AllFit}
-use Rattle.src_lexer.specs.declared.tokens.TokenKind.TheVariants as kind
+use Rattle.src_lexer.specs.declared.tokens.Kind.TheVariants as kind
 
-pub left-fit : (a b : List TokenKind) → AllFit (a ++ b) → AllFit a
+pub left-fit : (a b : List Kind) → AllFit (a ++ b) → AllFit a
 left-fit [] b all = tt
 left-fit (k ∷ a) b all = (all.0, left-fit a b all.1)
 
-pub right-fit : (a b : List TokenKind) → AllFit (a ++ b) → AllFit b
+pub right-fit : (a b : List Kind) → AllFit (a ++ b) → AllFit b
 right-fit [] b all = all
 right-fit (k ∷ a) b all = right-fit a b all.1
 
 pub zero-word : IsWord (pos 0)
 zero-word = small-word 0 (omega arith)
 
-pub tree-words : {most depth level : ℕ} {ks : List TokenKind} {t : Tree} → SpellsTree most depth level ks t → AllFit ks
+pub tree-words : {most depth level : ℕ} {ks : List Kind} {t : Tree} → SpellsTree most depth level ks t → AllFit ks
     → HasWords t
 tree-words (Numeral n) all = all.0
 tree-words (Named name) all = tt
@@ -35,11 +35,11 @@ tree-words (Negated room s) all = (zero-word, tree-words s all.1)
 tree-words (Joined {left = left} {right = right} op sign low is s t) all =
     (tree-words s (left-fit left (sign ∷ right) all), tree-words t (right-fit left (sign ∷ right) all).1)
 
-pub test-words : {most : Limits} {ks : List TokenKind} {t : Test} → Compares most ks t → AllFit ks → TestHasWords t
+pub test-words : {most : Limits} {ks : List Kind} {t : Test} → Compares most ks t → AllFit ks → TestHasWords t
 test-words (Compared {left = left} {right = right} cmp sign is s t few) all =
     (tree-words s (left-fit left (sign ∷ right) all), tree-words t (right-fit left (sign ∷ right) all).1)
 
-block-words : {most : Limits} {depth : ℕ} {ks : List TokenKind} {b : Block} → Writes most depth ks b → AllFit ks
+block-words : {most : Limits} {depth : ℕ} {ks : List Kind} {b : Block} → Writes most depth ks b → AllFit ks
     → BlockHasWords b
 block-words Ends all = tt
 block-words (Sets {tokens = tokens} {rest = rest} name s few w) all =
@@ -84,7 +84,7 @@ block-words (Repeats {guard = guard} {tokens = tokens} {rest = rest} g room body
 abbrev IsNamed : Decl → Type 0
 IsNamed d = IsTrue (is_name d.name)
 
-pub decls-named : {ks : List TokenKind} {ds : List Decl} → Declares ks ds → AllFit ks → All IsNamed ds
+pub decls-named : {ks : List Kind} {ds : List Decl} → Declares ks ds → AllFit ks → All IsNamed ds
 decls-named NoMore all = All-nil IsNamed
 decls-named (Scalar {decls = ds} Public name rest) all =
     All-cons IsNamed _ ds all.1.1.0 (decls-named rest all.1.1.1.1)
@@ -100,7 +100,7 @@ pub record ProgramFits (p : Source) : Type 0 where
   pub words : BlockHasWords p.body
   pub named : All (λ d. IsTrue (is_name d.name)) p.decls
 
-pub sentence-fits : {most : Limits} {ks : List TokenKind} {p : Source} → Sentence most ks p → AllFit ks → ProgramFits p
+pub sentence-fits : {most : Limits} {ks : List Kind} {p : Source} → Sentence most ks p → AllFit ks → ProgramFits p
 sentence-fits (Program {front = front} {back = back} d w) all = record {
   words = block-words w (right-fit front back all);
   named = decls-named d (left-fit front back all);

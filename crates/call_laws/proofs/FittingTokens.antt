@@ -6,22 +6,22 @@ use Rattle.std.specs.List.{list_all, prefix_len}
 use Rattle.std.specs.Str.Parse.{digits_value}
 use Rattle.std.proofs.lemmas.Bool.{and_from, le-leb, ltb-false}
 use Rattle.gr_word.specs.Prelude.{is_name, is_name_byte, IsWord}
-use Rattle.src_lexer.specs.declared.tokens.TokenKind.{TokenKind}
+use Rattle.src_lexer.specs.declared.tokens.Kind.{Kind}
 use Rattle.src_lexer.specs.Prelude.{LetterRun, Is, Big, Long, Mixed, BytePair, Two, Slashes, Apart, letter_run_of, number_run, pair_of, sign_of, word_run, Lexed, Splits, Ends, Blank, Comment, Word, Double, Single, TooBig, TooLong, Behind, Bad, token_at, with_token}
 use Rattle.src_parser.specs.Prelude.{token_kinds}
 use Rattle.block_cache_gen.proofs.RangesOfCode.{small-word}
-use Rattle.src_lexer.specs.declared.tokens.TokenKind.TheVariants as kind
+use Rattle.src_lexer.specs.declared.tokens.Kind.TheVariants as kind
 
-abbrev pub KindFits : TokenKind → Type 0
+abbrev pub KindFits : Kind → Type 0
 KindFits (kind.Num z) = IsWord z
 KindFits (kind.Word name) = IsTrue (is_name name)
 KindFits _ = Unit {0}
 
-abbrev pub AllFit : List TokenKind → Type 0
+abbrev pub AllFit : List Kind → Type 0
 AllFit [] = Unit {0}
 AllFit (k ∷ ks) = KindFits k × AllFit ks
 
-abbrev OptionFits : Option TokenKind → Type 0
+abbrev OptionFits : Option Kind → Type 0
 OptionFits None = Unit {0}
 OptionFits (Some k) = KindFits k
 
@@ -34,7 +34,7 @@ abbrev RunFits : LetterRun → Type 0
 RunFits (Is k) = KindFits k
 RunFits other = Unit {0}
 
-pick : (c : Bool) (k : TokenKind) (rest : Option TokenKind) → KindFits k → OptionFits rest
+pick : (c : Bool) (k : Kind) (rest : Option Kind) → KindFits k → OptionFits rest
     → OptionFits (if c then Some k else rest)
 pick true k rest one other = one
 pick false k rest one other = other
@@ -101,7 +101,7 @@ abbrev LexedFits : Lexed → Type 0
 LexedFits (Ok tokens) = AllFit (token_kinds tokens)
 LexedFits (Err e) = Unit {0}
 
-token-first : (k : TokenKind) (at size : ℕ) (r : Lexed) → KindFits k → LexedFits r
+token-first : (k : Kind) (at size : ℕ) (r : Lexed) → KindFits k → LexedFits r
     → LexedFits (with_token (token_at k at size) r)
 token-first k at size (Ok tokens) fits more = (fits, more)
 token-first k at size (Err e) fits more = tt

@@ -3,7 +3,7 @@ use Rattle.std.proofs.Common.{ℕ, zero, suc, ◌+◌, ◌<◌, ◌≤◌, Bool,
 use Rattle.std.specs.Prelude.{slice_index, if◌then◌else◌}
 use Rattle.std.specs.List.{prefix_len, take_while}
 use Rattle.gr_word.specs.Prelude.{is_name_byte}
-use Rattle.src_lexer.specs.declared.tokens.TokenKind.{TokenKind}
+use Rattle.src_lexer.specs.declared.tokens.Kind.{Kind}
 use Rattle.src_lexer.specs.declared.tokens.Token.{Token}
 use Rattle.src_lexer.specs.declared.errors.LexError.{LexError}
 use Rattle.src_lexer.specs.Prelude.{is_white, LetterRun, Is, Big, Long, Mixed, letter_run_of, sign_of, BytePair, Two, Slashes, Apart, pair_of, Splits, Ends, token_at, Found, Skipped, Piece, Faulty, run_found, single_found, sign_found, found_in}
@@ -31,7 +31,7 @@ run-told at size Big = tt
 run-told at size Long = tt
 run-told at size (Mixed digits) = tt
 
-single-told : (at : ℕ) (sign : Option TokenKind) → ToldIn (single_found at sign)
+single-told : (at : ℕ) (sign : Option Kind) → ToldIn (single_found at sign)
 single-told at (Some k) = tt
 single-told at None = tt
 

@@ -1,6 +1,6 @@
 -- A source text has at most one first fault, and none if it spells a program that is well typed and within the limits.
 use Rattle.std.proofs.Common.{◌≡◌, ◌≢◌, ◌∙◌, ℕ, Bool, true, false, List, ◌∷◌, [], ◌++◌, Option, Some, None, Result, Ok, Err, refl, sym, ap, subst}
-use Rattle.src_lexer.specs.declared.tokens.TokenKind.{TokenKind}
+use Rattle.src_lexer.specs.declared.tokens.Kind.{Kind}
 use Rattle.src_lexer.specs.declared.tokens.Token.{Token}
 use Rattle.src_lexer.specs.declared.errors.LexError.{LexError}
 use Rattle.src_lexer.specs.Prelude.{Lexed, Splits}
@@ -71,7 +71,7 @@ split-of true text p s = record { tokens = s.tokens; split = s.split; program = 
 
 -- ---- errors of tokens, by any grammar
 
-abbrev ExplainsBy : {P : Type 0} → (Limits → List TokenKind → P → Type 0) → ParseError → List Token → Type 0
+abbrev ExplainsBy : {P : Type 0} → (Limits → List Kind → P → Type 0) → ParseError → List Token → Type 0
 ExplainsBy S (error.Unexpected at) tokens = Stray S tokens at
 ExplainsBy S error.EndOfText tokens = Cut S tokens
 ExplainsBy S (error.TooDeep at) tokens = Deeper S tokens at
@@ -87,7 +87,7 @@ of-file : (e : ParseError) (tokens : List Token) → ExplainsFile e tokens → E
 of-file error.Memory tokens h = tt
 of-file other tokens h = h
 
-module _ {P : Type 0} (S : Limits → List TokenKind → P → Type 0) (tokens : List Token) where
+module _ {P : Type 0} (S : Limits → List Kind → P → Type 0) (tokens : List Token) where
   error-once : (a b : ParseError) → ExplainsBy S a tokens → ExplainsBy S b tokens → a ≢ error.Memory
       → b ≢ error.Memory → a ≡ b
   error-once (error.Unexpected at) (error.Unexpected to) s t p q = ap error.Unexpected (one_stray s t)

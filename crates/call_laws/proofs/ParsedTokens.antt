@@ -1,19 +1,19 @@
 -- Tokens are a sentence, or an error is true of them, for any grammar whose sentences are read token by token.
 use Rattle.std.proofs.Common.{◌≡◌, ℕ, List, [], ◌∷◌, ◌++◌, Option, Some, None, refl, sym, ap, ◌∙◌, subst, append_assoc}
 use Rattle.std.proofs.lemmas.List.{append-nil, map-append}
-use Rattle.src_lexer.specs.declared.tokens.TokenKind.{TokenKind}
+use Rattle.src_lexer.specs.declared.tokens.Kind.{Kind}
 use Rattle.src_lexer.specs.declared.tokens.Token.{Token}
 use Rattle.src_parser.specs.Prelude.{Limits, limits, token_kinds, Advance, Goes, Wrong, TooMuch, advances, Stray, Deeper, Cut}
 use Rattle.src_parser.proofs.Tokenwise.{Laws, begins, wrong_begins, much_begins, wider_begins, one_more_advance, whole_sentence, no_sentence}
 
-pub data Outcome {P : Type 0} (Sentence : Limits → List TokenKind → P → Type 0) (tokens : List Token) : Type 0 where
+pub data Outcome {P : Type 0} (Sentence : Limits → List Kind → P → Type 0) (tokens : List Token) : Type 0 where
   IsSentence : (tree : P) → Sentence limits (token_kinds tokens) tree → Outcome Sentence tokens
   IsStray : (at : ℕ) → Stray Sentence tokens at → Outcome Sentence tokens
   IsDeeper : (at : ℕ) → Deeper Sentence tokens at → Outcome Sentence tokens
   IsCut : Cut Sentence tokens → Outcome Sentence tokens
 
-module _ {S P : Type 0} {advanced : Limits → S → TokenKind → Advance S} {gives : S → Option P} {open_braces : S → ℕ}
-    {start : S} {Sentence : Limits → List TokenKind → P → Type 0} {Standing : Limits → S → List TokenKind → Type 0}
+module _ {S P : Type 0} {advanced : Limits → S → Kind → Advance S} {gives : S → Option P} {open_braces : S → ℕ}
+    {start : S} {Sentence : Limits → List Kind → P → Type 0} {Standing : Limits → S → List Kind → Type 0}
     (laws : Laws advanced gives open_braces start Sentence Standing) where
   abbrev LeadsTo : List Token → S → Type 0
   LeadsTo tokens state = advances advanced limits start (token_kinds tokens) ≡ Goes state

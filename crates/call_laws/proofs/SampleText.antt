@@ -6,34 +6,34 @@ use Rattle.gr_word.specs.Prelude.{is_name_byte}
 use Rattle.gr_word.specs.declared.operations.Op.TheVariants.{Add, Rem}
 use Rattle.gr_word.specs.declared.operations.Cmp.TheVariants.{Lt}
 use Rattle.gr_word.specs.declared.variables.Label.TheVariants.{Public, Secret}
-use Rattle.src_lexer.specs.declared.tokens.TokenKind.{TokenKind}
+use Rattle.src_lexer.specs.declared.tokens.Kind.{Kind}
 use Rattle.src_lexer.specs.declared.tokens.Token.{Token}
 use Rattle.src_lexer.specs.Prelude.{Is, Apart, is_white, letter_run_of, word_run, number_run, sign_of, pair_of, Splits, Ends, Blank, Word, Single, token_at}
 use Rattle.src_parser.specs.Prelude.{limits, Writes, Numeral, Named, Indexed, Joined, Compared, Sets, Puts, Repeats, NoMore, Scalar, Array, Sentence, Program, token_kinds, SpellsSource}
 use Rattle.src_parser.proofs.LoneTokens.{number_run_of}
 use Rattle.call_steps.specs.Prelude.{sample_text}
 use Rattle.call_laws.specs.Prelude.{sample_program, sample_turn}
-use Rattle.src_lexer.specs.declared.tokens.TokenKind.TheVariants as kind
+use Rattle.src_lexer.specs.declared.tokens.Kind.TheVariants as kind
 use Rattle.src_parser.specs.Grammar as grammar
 
 -- ---- bytes that are these tokens, wherever they begin
 
-record ReadsAt (at : ℕ) (text : List ℕ) (ks : List TokenKind) : Type 0 where
+record ReadsAt (at : ℕ) (text : List ℕ) (ks : List Kind) : Type 0 where
   pub tokens : List Token
   pub split : Splits at text (Ok tokens)
   pub same : token_kinds tokens ≡ ks
 
-abbrev Reads : List ℕ → List TokenKind → Type 0
+abbrev Reads : List ℕ → List Kind → Type 0
 Reads text ks = (at : ℕ) → ReadsAt at text ks
 
 nothing : Reads [] []
 nothing at = record { tokens = []; split = Ends; same = refl }
 
-blank : {rest : List ℕ} {ks : List TokenKind} (b : ℕ) → Reads rest ks → is_white b ≡ true → Reads (b ∷ rest) ks
+blank : {rest : List ℕ} {ks : List Kind} (b : ℕ) → Reads rest ks → is_white b ≡ true → Reads (b ∷ rest) ks
 blank b more white at =
     let r = more (at + 1) in record { tokens = r.tokens; split = Blank white r.split; same = r.same }
 
-run : {rest : List ℕ} {ks : List TokenKind} (k : TokenKind) (bytes : List ℕ)
+run : {rest : List ℕ} {ks : List Kind} (k : Kind) (bytes : List ℕ)
     → Reads rest ks → 0 < length bytes → list_all is_name_byte bytes ≡ true
     → is_name_byte (slice_index rest 0) ≡ false → letter_run_of bytes ≡ Is k → Reads (bytes ++ rest) (k ∷ ks)
 run k bytes more some each ends is at =
@@ -44,7 +44,7 @@ run k bytes more some each ends is at =
       same = ap (λ l. k ∷ l) r.same;
     }
 
-sign : {rest : List ℕ} {ks : List TokenKind} (k : TokenKind) (b : ℕ)
+sign : {rest : List ℕ} {ks : List Kind} (k : Kind) (b : ℕ)
     → Reads rest ks → is_white b ≡ false → is_name_byte b ≡ false → sign_of b ≡ Some k
     → pair_of b (slice_index rest 0) ≡ Apart → Reads (b ∷ rest) (k ∷ ks)
 sign k b more no_white no_word is apart at =
@@ -65,7 +65,7 @@ bracket_apart b = by (b == 61) (91 == b)
     by false true = refl
     by false false = refl
 
-number : {rest : List ℕ} {ks : List TokenKind} (n : ℕ)
+number : {rest : List ℕ} {ks : List Kind} (n : ℕ)
     → n < 2 ^ 63 → Reads rest ks → is_name_byte (slice_index rest 0) ≡ false
     → Reads (decimal n ++ rest) (kind.Num (pos n) ∷ ks)
 number n small more ends =
@@ -73,7 +73,7 @@ number n small more ends =
 
 -- ---- the lines
 
-first_line : {rest : List ℕ} {ks : List TokenKind} → Reads rest ks
+first_line : {rest : List ℕ} {ks : List Kind} → Reads rest ks
     → Reads (codes "public int i;\n" ++ rest) (kind.Public ∷ kind.Int ∷ kind.Word (codes "i") ∷ kind.Semi ∷ ks)
 unfolding sign_of pair_of word_run
 first_line more =
@@ -81,7 +81,7 @@ first_line more =
     (codes "i") (sign kind.Semi 59 (blank 10 more refl) refl refl refl refl) (omega arith) refl refl refl) refl)
     (omega arith) refl refl refl) refl) (omega arith) refl refl refl
 
-items_line : {rest : List ℕ} {ks : List TokenKind} (n : ℕ) → n < 2 ^ 63 → Reads rest ks
+items_line : {rest : List ℕ} {ks : List Kind} (n : ℕ) → n < 2 ^ 63 → Reads rest ks
     → Reads (codes "secret int a[" ++ (decimal n ++ (codes "];\n" ++ rest)))
     (kind.Secret ∷ kind.Int ∷ kind.Word (codes "a") ∷ kind.LBracket ∷ kind.Num (pos n) ∷ kind.RBracket ∷ kind.Semi ∷ ks)
 unfolding sign_of pair_of word_run
@@ -95,7 +95,7 @@ items_line {rest} {ks} n small more =
     (blank 32 (run (kind.Word (codes "a")) (codes "a") opened (omega arith) refl refl refl) refl)
     (omega arith) refl refl refl) refl) (omega arith) refl refl refl
 
-counts_line : {rest : List ℕ} {ks : List TokenKind} → Reads rest ks → Reads (codes "secret int c[16];\n" ++ rest)
+counts_line : {rest : List ℕ} {ks : List Kind} → Reads rest ks → Reads (codes "secret int c[16];\n" ++ rest)
     (kind.Secret ∷ kind.Int ∷ kind.Word (codes "c") ∷ kind.LBracket ∷ kind.Num (pos 16)
     ∷ kind.RBracket ∷ kind.Semi ∷ ks)
 unfolding sign_of pair_of word_run number_run
@@ -108,7 +108,7 @@ counts_line {rest} {ks} more =
     (blank 32 (run (kind.Word (codes "c")) (codes "c") opened (omega arith) refl refl refl) refl)
     (omega arith) refl refl refl) refl) (omega arith) refl refl refl
 
-remainder_line : {rest : List ℕ} {ks : List TokenKind} → Reads rest ks
+remainder_line : {rest : List ℕ} {ks : List Kind} → Reads rest ks
     → Reads (codes "secret int t;\n" ++ rest) (kind.Secret ∷ kind.Int ∷ kind.Word (codes "t") ∷ kind.Semi ∷ ks)
 unfolding sign_of pair_of word_run
 remainder_line more =
@@ -116,7 +116,7 @@ remainder_line more =
     (codes "t") (sign kind.Semi 59 (blank 10 more refl) refl refl refl refl) (omega arith) refl refl refl) refl)
     (omega arith) refl refl refl) refl) (omega arith) refl refl refl
 
-start_line : {rest : List ℕ} {ks : List TokenKind} → Reads rest ks
+start_line : {rest : List ℕ} {ks : List Kind} → Reads rest ks
     → Reads (codes "i = 0;\n" ++ rest) (kind.Word (codes "i") ∷ kind.Assign ∷ kind.Num (pos 0) ∷ kind.Semi ∷ ks)
 unfolding sign_of pair_of word_run number_run
 start_line more =
@@ -125,16 +125,16 @@ start_line more =
     (omega arith) refl refl refl) refl) refl refl refl refl) refl) (omega arith) refl refl refl
 
 -- a space, and then more
-spaced : {rest : List ℕ} {ks : List TokenKind} → Reads rest ks → Reads (32 ∷ rest) ks
+spaced : {rest : List ℕ} {ks : List Kind} → Reads rest ks → Reads (32 ∷ rest) ks
 spaced more = blank 32 more refl
 
-abbrev take_tokens : List TokenKind → List TokenKind
+abbrev take_tokens : List Kind → List Kind
 take_tokens ks =
     kind.Word (codes "t") ∷ kind.Assign ∷ kind.Word (codes "a") ∷ kind.LBracket ∷ kind.Word (codes "i") ∷ kind.RBracket
     ∷ kind.Percent
     ∷ kind.Num (pos 16) ∷ kind.Semi ∷ ks
 
-take_text : {rest : List ℕ} {ks : List TokenKind}
+take_text : {rest : List ℕ} {ks : List Kind}
     → Reads (32 ∷ rest) ks → Reads (codes "t = a[i] % 16;" ++ (32 ∷ rest)) (take_tokens ks)
 unfolding sign_of pair_of word_run number_run
 take_text more =
@@ -150,7 +150,7 @@ take_text more =
     (omega arith) refl refl refl
 
 -- `c[t]` before a space
-count_text : {rest : List ℕ} {ks : List TokenKind} → Reads (32 ∷ rest) ks → Reads (codes "c[t]" ++ (32 ∷ rest))
+count_text : {rest : List ℕ} {ks : List Kind} → Reads (32 ∷ rest) ks → Reads (codes "c[t]" ++ (32 ∷ rest))
     (kind.Word (codes "c") ∷ kind.LBracket ∷ kind.Word (codes "t") ∷ kind.RBracket ∷ ks)
 unfolding sign_of pair_of word_run
 count_text more =
@@ -159,30 +159,30 @@ count_text more =
     (omega arith) refl refl refl
 
 -- `+ 1;` before a space
-one_more_text : {rest : List ℕ} {ks : List TokenKind}
+one_more_text : {rest : List ℕ} {ks : List Kind}
     → Reads (32 ∷ rest) ks → Reads (codes "+ 1;" ++ (32 ∷ rest)) (kind.Plus ∷ kind.Num (pos 1) ∷ kind.Semi ∷ ks)
 unfolding sign_of pair_of word_run number_run
 one_more_text more =
     sign kind.Plus 43 (spaced (run (kind.Num (pos 1)) (codes "1") (sign kind.Semi 59 more refl refl refl refl)
     (omega arith) refl refl refl)) refl refl refl refl
 
-abbrev raise_tokens : List TokenKind → List TokenKind
+abbrev raise_tokens : List Kind → List Kind
 raise_tokens ks =
     kind.Word (codes "c") ∷ kind.LBracket ∷ kind.Word (codes "t") ∷ kind.RBracket ∷ kind.Assign ∷ kind.Word (codes "c")
     ∷ kind.LBracket
     ∷ kind.Word (codes "t") ∷ kind.RBracket ∷ kind.Plus ∷ kind.Num (pos 1) ∷ kind.Semi ∷ ks
 
-raise_text : {rest : List ℕ} {ks : List TokenKind}
+raise_text : {rest : List ℕ} {ks : List Kind}
     → Reads (32 ∷ rest) ks → Reads (codes "c[t] = c[t] + 1;" ++ (32 ∷ rest)) (raise_tokens ks)
 unfolding sign_of pair_of
 raise_text more =
     count_text (spaced (sign kind.Assign 61 (spaced (count_text (spaced (one_more_text more)))) refl refl refl refl))
 
-abbrev step_tokens : List TokenKind → List TokenKind
+abbrev step_tokens : List Kind → List Kind
 step_tokens ks =
     kind.Word (codes "i") ∷ kind.Assign ∷ kind.Word (codes "i") ∷ kind.Plus ∷ kind.Num (pos 1) ∷ kind.Semi ∷ ks
 
-step_text : {rest : List ℕ} {ks : List TokenKind}
+step_text : {rest : List ℕ} {ks : List Kind}
     → Reads (32 ∷ rest) ks → Reads (codes "i = i + 1;" ++ (32 ∷ rest)) (step_tokens ks)
 unfolding sign_of pair_of word_run
 step_text more =
@@ -190,7 +190,7 @@ step_text more =
     run (kind.Word (codes "i")) (codes "i") (spaced (sign kind.Assign 61 (spaced value) refl refl refl refl))
     (omega arith) refl refl refl
 
-abbrev turn_tokens : List TokenKind → List TokenKind
+abbrev turn_tokens : List Kind → List Kind
 turn_tokens ks = kind.LBrace ∷ take_tokens (raise_tokens (step_tokens (kind.RBrace ∷ ks)))
 
 turn_text : Reads (codes ") { t = a[i] % 16; c[t] = c[t] + 1; i = i + 1; }\n") (kind.RParen ∷ turn_tokens [])
@@ -213,7 +213,7 @@ loop_line n small =
 
 -- ---- the whole text
 
-abbrev tokens_of : ℕ → List TokenKind
+abbrev tokens_of : ℕ → List Kind
 tokens_of n =
     kind.Public ∷ kind.Int ∷ kind.Word (codes "i") ∷ kind.Semi
     ∷ kind.Secret ∷ kind.Int ∷ kind.Word (codes "a") ∷ kind.LBracket ∷ kind.Num (pos n) ∷ kind.RBracket ∷ kind.Semi

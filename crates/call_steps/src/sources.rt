@@ -17,7 +17,7 @@ use flow_types::{Typed, type_program};
 use gr_outside::Shelf;
 use procs_parser::read_file;
 use src_parser::read_source;
-use src_procs::inline;
+use src_procs::inline_owned;
 use src_tree::Program;
 use std::alloc::Global;
 
@@ -89,7 +89,7 @@ fn inlined(alloc: Global, text: &[u8]) -> Result<Program, Option<SourceFault>>
     ensures refused { IfErr result (λ shown. IfSome shown (IsFirstSourceFault true text.now)) }
 {
     match read_file(alloc, text) {
-        Ok(file) => match inline(alloc, file) {
+        Ok(file) => match inline_owned(alloc, file) {
             Ok(program) => Ok(program),
             Err(fault) => Err(shown_call_fault(fault)),
         },

@@ -5,4 +5,6 @@ pub mod Emitted
 pub mod Made
 pub use Rattle.src_tree.specs.Meaning
 pub use Rattle.bank_alloc.specs.Layout
+pub use Rattle.compiled_objects.specs.Compiles
+pub use Rattle.compiled_objects.specs.Implements
 pub mod Prelude

@@ -1,7 +1,7 @@
-//! Where the two ways through a branch on a secret first differ.
+//! Where the two paths through a branch on a secret first differ.
 //!
-//! The ways are followed side by side, access by access. Values are distinguished by hashes, so the words are a hint:
-//! whether the ways differ is the check's verdict.
+//! The paths are followed side by side, access by access. Values are distinguished by hashes, so the words are a hint:
+//! whether the paths differ is the check's verdict.
 
 use crate::refusals::{Refused, bank_of, is_secret};
 use crate::words::Words;
@@ -224,7 +224,7 @@ fn ways_of(object: &Object, place: usize, known: &Known) -> Option<(Way, Way)> {
     ))
 }
 
-/// Adds where the two ways through the branch at a place first differ.
+/// Adds where the two paths through the branch at a place first differ.
 pub(crate) fn put_difference(refused: &Refused<'_>, place: usize, known: &Known, out: &mut Words) {
     let object = refused.object;
     let Some((mut first, mut second)) = ways_of(object, place, known) else {
@@ -234,7 +234,7 @@ pub(crate) fn put_difference(refused: &Refused<'_>, place: usize, known: &Known,
         let ours = first.next(object);
         let theirs = second.next(object);
         if ours.gap != theirs.gap || !are_alike(ours.access, theirs.access) {
-            out.line("The two ways first differ here:");
+            out.line("The two paths first differ here:");
             put_sight(refused, "    not taken: ", ours, out);
             return put_sight(refused, "    taken: ", theirs, out);
         }
@@ -243,7 +243,8 @@ pub(crate) fn put_difference(refused: &Refused<'_>, place: usize, known: &Known,
         }
     }
     out.line(
-        "Both ways have such accesses at the same cycles; the check can't tell that their blocks are equal.",
+        "Both paths access the same banks at the same cycles, but the check can't tell that they access the same \
+        blocks.",
     )
 }
 
@@ -266,13 +267,10 @@ fn put_sight(refused: &Refused<'_>, way: &str, sight: Sight, out: &mut Words) {
     if sight.access.is_some() {
         out.fill("place {}: ", &[place]);
         refused.put_instruction(sight.place, out);
-        out.fill(
-            ", with {} cycles before it that access nothing\n",
-            &[sight.gap],
-        );
+        out.fill(", after {} cycles without an access\n", &[sight.gap]);
     } else {
         out.fill(
-            "nothing is accessed up to the join at place {}, with {} cycles before it\n",
+            "reaches the join at place {} after {} cycles without an access\n",
             &[place, sight.gap],
         );
     }

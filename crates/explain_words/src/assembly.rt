@@ -1,7 +1,11 @@
 //! Why an assembly text isn't an object.
 
+use crate::line_forms::{
+    FORMS, LineWord, Misfit, form_of, misfit_of, put_kind, word_after, word_from,
+};
+use crate::line_orders::{misplaced, out_of_range};
 use crate::nearest::Nearest;
-use crate::texts::{Source, is_word_of, length_up_to, line_of, line_start, piece, spot_at};
+use crate::texts::{Source, length_up_to, line_of, line_start, piece, spot_at};
 use crate::words::Words;
 use gr_base::Memory;
 use lt_assembler::{AsmError, assemble};
@@ -10,71 +14,196 @@ use std::alloc::Global;
 /// The most bytes of an assembly text.
 const TEXT_BYTES: usize = 67_108_864;
 
+/// Which lines there are.
+const LINES: &str =
+    "A line is `.object`, `.bank`, `.symbol`, `.note`, a label such as `next:`, or an instruction: nop halt li ldb stb \
+    idb ldw stw jmp br add sub mul div rem remu and or xor shl shr.";
+
+/// What a text has at least.
+const PARTS: &str =
+    "It needs a first line `.object`, at least two banks, at least one instruction, and an instruction after each \
+    note.";
+
+/// A line of an assembly text, and the byte at which it begins.
+#[derive(Clone, Copy)]
+struct Line<'a> {
+    source: Source<'a>,
+    start: usize,
+    line: &'a [u8],
+}
+
 /// Explains why an assembly text isn't an object.
 pub(crate) fn explain_assembly(alloc: Global, name: &str, text: &[u8], out: &mut Words) {
     if text.len() > TEXT_BYTES {
         return;
     }
-    if let Some(fault) = assemble(alloc, text).err() {
-        explain_fault(alloc, Source { name, text }, fault, out);
-    }
-}
-
-fn explain_fault(alloc: Global, source: Source<'_>, fault: AsmError, out: &mut Words) {
-    let (number, what, hint) = match fault {
-        AsmError::BadLine(number) => (
-            number,
-            "the line has none of the forms that may stand here",
-            None,
-        ),
-        AsmError::BadNumber(number) => (
-            number,
-            "a number of the line isn't written so, is out of its range, or names what isn't there",
-            None,
-        ),
-        AsmError::UnknownName(number) => (
-            number,
-            "the line uses a label that stands nowhere",
-            Some(
-                "Put a line with the label and a colon before the instruction that the line should lead to.",
-            ),
-        ),
-        AsmError::TwiceNamed(number) => (
-            number,
-            "the line repeats the name of a symbol or of a label",
-            Some("Give one of them another name."),
-        ),
-        AsmError::OverLimit(number) => (
-            number,
-            "the line passes a limit",
-            Some(
-                "At most 10 banks, 1,024 symbols of 4,194,304 words together, 262,144 notes and 1,048,576 \
-                instructions may stand, and one note before an instruction.",
-            ),
-        ),
-        AsmError::Memory => return out.starve(),
+    let Some(fault) = assemble(alloc, text).err() else {
+        return;
     };
-    explain_line(source, number as usize, what, hint, out);
-    suggest_word(alloc, source, number as usize, out)
+    let source = Source { name, text };
+    match fault {
+        AsmError::Memory => out.starve(),
+        AsmError::BadLine(number) => line_at(source, number).put_form(alloc, false, out),
+        AsmError::BadNumber(number) => line_at(source, number).put_form(alloc, true, out),
+        AsmError::UnknownName(number) => line_at(source, number).put_undefined(out),
+        AsmError::TwiceNamed(number) => line_at(source, number).put_twice(out),
+        AsmError::OverLimit(number) => line_at(source, number).put(
+            0,
+            "this line exceeds a limit",
+            "A text has at most 10 banks, 1,024 symbols of 4,194,304 words in all, 262,144 notes and 1,048,576 \
+            instructions.",
+            out,
+        ),
+    }
 }
 
-fn explain_line(
-    source: Source<'_>,
-    number: usize,
-    what: &str,
-    hint: Option<&str>,
-    out: &mut Words,
-) {
-    let start = line_start(source.text, number);
-    let line = line_of(source.text, spot_at(source.text, start));
-    if let Some(ahead) = line.iter().position(|byte| *byte == b'\r' || *byte > 126) {
-        let (what, hint) = of_foreign(piece(line, ahead, 3));
-        return source.put(start.saturating_add(ahead), what, hint, out);
+// The line of a number, from 1.
+fn line_at(source: Source<'_>, number: u32) -> Line<'_> {
+    let start = line_start(source.text, number as usize);
+    Line {
+        source,
+        start,
+        line: line_of(source.text, spot_at(source.text, start)),
     }
-    let words = past_blanks(line);
-    let indent = line.len().saturating_sub(words.len());
-    let hint = hint.unwrap_or(form_of(first_word(words), start < source.text.len()));
-    source.put(start.saturating_add(indent), what, hint, out)
+}
+
+impl Line<'_> {
+    // What is wrong at the first word from a byte of the line on, and how to fix it.
+    fn put(&self, from: usize, what: &str, hint: &str, out: &mut Words) {
+        let at = word_from(self.line, from).at;
+        self.source
+            .put(self.start.saturating_add(at), what, hint, out)
+    }
+
+    // A word of the line between two texts, and how to fix it.
+    fn put_word(&self, word: LineWord<'_>, texts: (&str, &str), hint: &str, out: &mut Words) {
+        let (before, after) = texts;
+        let spot = spot_at(self.source.text, self.start.saturating_add(word.at));
+        out.put_place(self.source.name, spot);
+        out.say(before);
+        out.quote_word(word.bytes);
+        out.say(after);
+        out.put_line(self.source.text, spot);
+        out.line(hint);
+    }
+
+    // A line that has no form, or a number that isn't allowed.
+    fn put_form(&self, alloc: Global, is_number: bool, out: &mut Words) {
+        if let Some(ahead) = self
+            .line
+            .iter()
+            .position(|byte| *byte == b'\r' || *byte > 126)
+        {
+            let (what, hint) = of_foreign(piece(self.line, ahead, 3));
+            let at = self.start.saturating_add(ahead);
+            return self.source.put(at, what, hint, out);
+        }
+        if self.start >= self.source.text.len() {
+            return self.put(0, "the text ends too early", PARTS, out);
+        }
+        let Some(form) = form_of(self.line) else {
+            return self.put_unknown(alloc, out);
+        };
+        if let Some(misfit) = misfit_of(self.line, form) {
+            return self.put_misfit(misfit, form[2], out);
+        }
+        let front = piece(self.source.text, 0, self.start);
+        let found = if is_number {
+            out_of_range(front, self.line)
+        } else {
+            misplaced(front, self.line)
+        };
+        self.put(found.at, found.what, found.hint.unwrap_or(form[2]), out)
+    }
+
+    // An operand that its form doesn't allow.
+    fn put_misfit(&self, misfit: Misfit<'_>, form: &str, out: &mut Words) {
+        let Misfit { word, kind } = misfit;
+        let Some(kind) = kind else {
+            return self.put_word(word, ("unexpected ", " after the last operand"), form, out);
+        };
+        let spot = spot_at(self.source.text, self.start.saturating_add(word.at));
+        out.put_place(self.source.name, spot);
+        out.say("expected ");
+        put_kind(kind, out);
+        if word.bytes.is_empty() {
+            out.say(" at the end of the line");
+        } else {
+            out.say(", not ");
+            out.quote_word(word.bytes);
+        }
+        out.put_line(self.source.text, spot);
+        if word.bytes.ends_with(b",") {
+            out.line("Operands are separated by spaces, without commas.");
+        }
+        out.line(form);
+    }
+
+    // A line whose first word begins none.
+    fn put_unknown(&self, alloc: Global, out: &mut Words) {
+        let word = word_from(self.line, 0);
+        let next = word_after(self.line, word);
+        match word.bytes {
+            [b'#', ..] | [b'/', b'/', ..] => self.put_word(
+                word,
+                ("unexpected ", ""),
+                "A comment begins with `;`.",
+                out,
+            ),
+            [.., b':'] if !next.bytes.is_empty() => self.put_word(
+                next,
+                ("unexpected ", " after a label"),
+                "A label is on a line of its own: put the instruction on the next line.",
+                out,
+            ),
+            [.., b':'] => self.put_word(
+                word,
+                ("", " isn't a label"),
+                "A label is a name and a colon. A name has at most 32 letters, digits and `_`, and no digit first.",
+                out,
+            ),
+            [b'.', ..] => self.put_word(word, ("unknown directive ", ""), LINES, out),
+            _ => self.put_word(word, ("unknown instruction ", ""), LINES, out),
+        }
+        match nearest_word(alloc, word.bytes) {
+            Ok(Some(known)) => out.suggest(known),
+            Ok(None) => {}
+            Err(_) => out.starve(),
+        }
+    }
+
+    // A label that no line defines: the last word of the line.
+    fn put_undefined(&self, out: &mut Words) {
+        let mut label = word_from(self.line, 0);
+        for _ in self.line {
+            let next = word_after(self.line, label);
+            if next.bytes.is_empty() {
+                break;
+            }
+            label = next;
+        }
+        self.put_word(
+            label,
+            ("undefined label ", ""),
+            "Define it by a line with the label and a colon, before the instruction that it names.",
+            out,
+        );
+    }
+
+    // A symbol or a label with the name of an earlier one.
+    fn put_twice(&self, out: &mut Words) {
+        let first = word_from(self.line, 0);
+        let hint = "Give one of them another name.";
+        if first.bytes == b".symbol".as_slice() {
+            let name = word_after(self.line, first);
+            return self.put_word(name, ("the symbol ", " is defined twice"), hint, out);
+        }
+        let name = LineWord {
+            at: first.at,
+            bytes: piece(first.bytes, 0, first.bytes.len().saturating_sub(1)),
+        };
+        self.put_word(name, ("the label ", " is defined twice"), hint, out)
+    }
 }
 
 // What the bytes are that no text has, and how to fix it.
@@ -82,122 +211,24 @@ fn of_foreign(bytes: &[u8]) -> (&'static str, &'static str) {
     match bytes {
         [b'\r', ..] => (
             "the line has a carriage return",
-            "Lines end with a line feed alone: take the carriage returns out, by `tr -d '\\r'`.",
+            "Lines end with a line feed only: remove the carriage returns, with `tr -d '\\r'`.",
         ),
         [239, 187, 191] => (
             "the line has a byte order mark",
-            "A text is ASCII: take the first three bytes of the file away, by `tail -c +4`.",
+            "An assembly text is ASCII: remove the first three bytes of the file, with `tail -c +4`.",
         ),
         _ => (
-            "the line has a byte that is no ASCII",
-            "A text is ASCII, in comments too.",
+            "the line has a byte that isn't ASCII",
+            "An assembly text is ASCII, in comments too.",
         ),
     }
 }
 
-// Suggests the word that a line may begin with, if its first word is near one and isn't one.
-fn suggest_word(alloc: Global, source: Source<'_>, number: usize, out: &mut Words) {
-    let start = line_start(source.text, number);
-    let word = first_word(past_blanks(line_of(source.text, spot_at(source.text, start))));
-    match nearest_word(alloc, word) {
-        Ok(Some(known)) => if known != word {
-            out.suggest(known)
-        },
-        Ok(None) => {}
-        Err(_) => out.starve(),
-    }
-}
-
+// The known first word of a line that is nearest to a word, if one is near.
 fn nearest_word(alloc: Global, word: &[u8]) -> Result<Option<&'static [u8]>, Memory> {
     let mut nearest = Nearest::to(alloc, word)?;
-    for (words, _) in FORMS {
-        nearest.compare_each(alloc, words)?;
+    for form in FORMS {
+        nearest.compare_each(alloc, form[0])?;
     }
     Ok(nearest.found())
-}
-
-// A line without the spaces and tabs that it begins with.
-fn past_blanks(line: &[u8]) -> &[u8] {
-    let indent = line
-        .iter()
-        .take_while(|byte| matches!(**byte, b' ' | b'\t'))
-        .count();
-    piece(line, indent, line.len())
-}
-
-fn first_word(words: &[u8]) -> &[u8] {
-    piece(words, 0, length_up_to(words, b" \t;"))
-}
-
-/// The first words of lines, and the form of such a line.
-const FORMS: &[(&str, &str)] = &[
-    (
-        ".object",
-        "The first line is `.object 1 W ALU MUL WORD TAKEN`, or `.object 2` with PERIOD OPEN CLOSE behind them: W from 3 \
-        to 9, the cycles from 1 to 127, TAKEN to 32.",
-    ),
-    (
-        ".bank",
-        "Its form is `.bank BLOCKS LATENCY`, behind `.object`: 2 to 10 of them, of 65536 blocks at most in the first two \
-        and 4096 in the others, with a latency to 1000000.",
-    ),
-    (
-        ".symbol",
-        "Its form is `.symbol NAME LABEL SHAPE BANK BLOCK WORD LENGTH`, behind the banks: public or secret, scalar or \
-        array, within its bank and behind the symbol before.",
-    ),
-    (
-        ".note",
-        "Its form is `.note MASK S0 .. S7`, directly before an instruction: eight hexadecimal digits in lower case, and \
-        for each slot `-` or a bank's number.",
-    ),
-    (
-        "br",
-        "Its form is `br eq r1 r2 -> +2`: eq ne lt le gt ge, two registers, and a place, an offset or a label.",
-    ),
-    (
-        "jmp",
-        "Its form is `jmp -> 7`: a place, an offset with a sign as +3 or -2, or a label.",
-    ),
-    (
-        "li",
-        "Its form is `li r1 -5`: a register from r0 to r31, and a word of 64 bits with a sign.",
-    ),
-    (
-        "ldb",
-        "Its form is `ldb 0 D r1`: a slot from 0 to 7, a bank by D, E or O2 to O9 that the object has, a register.",
-    ),
-    ("stb", "Its form is `stb 0`: a slot from 0 to 7."),
-    (
-        "idb",
-        "Its form is `idb r1 0`: a register, and a slot from 0 to 7.",
-    ),
-    (
-        "ldw stw",
-        "Its form is `ldw r1 0 r2`, and that of `stw` the same: a register, a slot from 0 to 7, a register.",
-    ),
-    (
-        "nop halt",
-        "It stands alone in its line, behind the banks and symbols.",
-    ),
-    (
-        "add sub mul div rem remu and or xor shl shr",
-        "Its form is `add r1 r2 r3`: three registers from r0 to r31.",
-    ),
-];
-
-// The form of the line that begins with a word, within the text or after it.
-fn form_of(word: &[u8], is_within: bool) -> &'static str {
-    for (words, form) in FORMS {
-        if is_word_of(words, word) {
-            return form;
-        }
-    }
-    if is_within {
-        "A line is `.object`, `.bank`, `.symbol`, `.note`, a label as `next:`, or an instruction: nop halt li ldb stb idb \
-        ldw stw jmp br add sub mul div rem remu and or xor shl shr."
-    } else {
-        "The text ends too soon: it has a first line `.object`, at least two banks and an instruction, and an \
-        instruction behind each note."
-    }
 }

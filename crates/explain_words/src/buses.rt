@@ -63,20 +63,20 @@ fn lack_of(cores: &[Core<'_>], number: usize, core: &Core<'_>) -> Option<Lack> {
     };
     if period == 1 {
         return Some(Lack {
-            words: "its memory is always open\nGive it a window: by `compile --window P:O:C`, or `.object 2`.\n",
+            words: "its memory is always open\nGive it a window, with `compile --window P:O:C` or `.object 2`.\n",
             numbers: [0; 5],
         });
     }
     if first != period {
         return Some(Lack {
-            words: "its period is {} cycles, and that of core 0 is {}\nGive all the same period.\n",
+            words: "its period is {} cycles, and the period of core 0 is {}\nGive all objects the same period.\n",
             numbers: [period, first, 0, 0, 0],
         });
     }
     if period < ours.up_to {
         return Some(Lack {
-            words: "its accesses may be on the bus up to cycle {}, and its period has {}\nLet its window close earlier, \
-                or give all a longer period.\n",
+            words: "its accesses may be on the bus up to cycle {} of a period, which has only {}\nClose its window \
+            earlier, or give all objects a longer period.\n",
             numbers: [ours.up_to, period, 0, 0, 0],
         });
     }
@@ -84,8 +84,9 @@ fn lack_of(cores: &[Core<'_>], number: usize, core: &Core<'_>) -> Option<Lack> {
         let theirs = reach_of(&other.object);
         if ours.from < theirs.up_to && theirs.from < ours.up_to {
             return Some(Lack {
-                words: "its accesses may be on the bus from cycle {} up to {} of a period, and those of core {} from {} up \
-                    to {}\nLet its window open behind the end of the other's, or close early enough before it.\n",
+                words: "its accesses may be on the bus from cycle {} up to {} of a period, and the accesses of core {} \
+                from {} up to {}\nOpen its window after the other core's accesses end, or close it before they \
+                begin.\n",
                 numbers: [
                     ours.from,
                     ours.up_to,

@@ -1,7 +1,7 @@
-//! Bytes with which no token begins, and what is meant by them, as one table.
+//! Bytes that begin no token, and what is meant by them, as one table.
 
-use crate::habits::{FOR, OUTPUT, PRINTING};
-use crate::texts::{Source, is_word_of, piece};
+use crate::hints::{FOR, LISTS, OUTPUT, PRINTING, PROCEDURE, SWITCH};
+use crate::texts::{Source, is_word_of, piece, spot_at};
 use crate::tokens::{Tokens, tokens_of};
 use crate::words::Words;
 use gr_base::Memory;
@@ -11,36 +11,40 @@ use std::alloc::Global;
 /// any if there is no word; the texts, of which the file continues with one; and how to write it here.
 type Text = [&'static str; 4];
 
-const LISTS: &str =
-    "There are no lists of values: assign each element, as in `a[0] = 1; a[1] = 2;`, or give them by the inputs.";
+/// The first words of functions of C.
+const TYPES: &str =
+    "int void public secret char long short unsigned signed float double bool static";
 
 const TEXTS: &[Text] = &[
     ["for", "", "", FOR],
-    [
-        "def fn func function",
-        "",
-        ":",
-        "A procedure is written `proc f(secret int p; int a[]) { .. }`, and needs the option --procs.",
-    ],
+    ["def fn func function", "", ":", PROCEDURE],
     [PRINTING, "", "\" ' .", OUTPUT],
     ["", "", ":=", "An assignment is written with `=`: `x = 1;`."],
     [
         "if while for elif else",
         "",
         ":",
-        "A guard is in parentheses, and a block in braces: `if (x > 0) { x = 1; }`.",
+        "A condition is in parentheses, and a block in braces: `if (x > 0) { x = 1; }`.",
     ],
+    ["switch case default", "", ":", SWITCH],
+    ["", "", ":", "There are no labels and no jumps."],
     [
         "",
         "",
-        "? :",
+        "?",
         "There is no `? :`: write `if (..) { x = 1; } else { x = 2; }`.",
     ],
     [
         "",
         "",
-        "#define #include #if #ifdef #ifndef #endif #pragma #undef",
+        "#define #undef",
         "There is no preprocessor: write the number in place of its name.",
+    ],
+    [
+        "",
+        "",
+        "#include #if #ifdef #ifndef #else #endif #pragma",
+        "There is no preprocessor: delete this line.",
     ],
     [
         "",
@@ -52,19 +56,19 @@ const TEXTS: &[Text] = &[
         "",
         "",
         "!",
-        "There is no `!`: compare by `!=`, or exchange the two blocks of the choice.",
+        "There is no `!`: compare with `!=`, or swap the two blocks of the `if`.",
     ],
     [
         "public secret int",
         "",
         ",",
-        "There is no comma: declare each variable by itself, `public int x; public int y;`.",
+        "There is no comma: declare each variable separately, `public int x; public int y;`.",
     ],
     [
         "",
         "",
         ",",
-        "There is no comma: write statements of their own, `x = 1; y = 2;`.",
+        "There is no comma: write separate statements, `x = 1; y = 2;`.",
     ],
     [
         "",
@@ -79,23 +83,18 @@ const TEXTS: &[Text] = &[
         "There are no characters and no strings: write the number.",
     ],
     ["", "", "~", "There is no `~`: write `-x - 1`."],
-    [
-        "",
-        "0",
-        "x X",
-        "Numbers are decimal digits alone: write 31 for `0x1f`.",
-    ],
+    ["", "0", "x X", "Numbers are decimal: write 31 for `0x1f`."],
     [
         "",
         "0",
         "b B o O",
-        "Numbers are decimal digits alone: write 3 for `0b11`.",
+        "Numbers are decimal: write 3 for `0b11`.",
     ],
     [
         "",
         "",
         "\u{2212} \u{2013} \u{2014}",
-        "This is a dash beyond ASCII: write `-`.",
+        "This dash isn't ASCII: write `-`.",
     ],
     [
         "",
@@ -107,13 +106,13 @@ const TEXTS: &[Text] = &[
         "",
         "",
         "\u{feff}",
-        "This is a byte order mark, which a source may not have: remove it, by `tail -c +4`.",
+        "This is a byte order mark, which isn't allowed: remove it, with `tail -c +4`.",
     ],
     [
         "",
         "",
         "\u{a0} \u{3000} \u{200b}",
-        "This is a space beyond ASCII: write a plain one.",
+        "This space isn't ASCII: write a plain space.",
     ],
 ];
 
@@ -121,10 +120,10 @@ const TEXTS: &[Text] = &[
 fn of_byte(byte: u8) -> &'static str {
     match byte {
         b'a'..=b'z' | b'A'..=b'Z' | b'_' => {
-            "A letter follows a number directly: numbers are decimal digits alone, and a name begins with a letter or `_`."
+            "A letter directly follows a number: numbers are decimal, and names begin with a letter or `_`."
         }
-        128..=255 => "A source is ASCII text. Only comments may have other characters.",
-        _ => "No token begins with this character.",
+        128..=255 => "A source is ASCII. Other characters are only allowed in comments.",
+        _ => "This character is only allowed in comments.",
     }
 }
 
@@ -151,6 +150,9 @@ fn said_of(alloc: Global, tokens: Tokens<'_>, rest: &[u8]) -> Result<&'static st
         if tokens.before(open) == b"=".as_slice() {
             return Ok(LISTS);
         }
+        if tokens.is(open, "(") && is_among(TYPES, tokens.word(tokens.first_of(open))) {
+            return Ok(PROCEDURE);
+        }
         if tokens.is(open, "(") && !is_among(PRINTING, tokens.before(open)) {
             return Ok(
                 "There is no comma: parameters and arguments are separated by `;`, as in `f(x; y);`.",
@@ -170,7 +172,7 @@ fn said_of(alloc: Global, tokens: Tokens<'_>, rest: &[u8]) -> Result<&'static st
     Ok(of_byte(rest.first().copied().unwrap_or(0)))
 }
 
-/// Explains a byte with which no token begins.
+/// Explains a byte that begins no token.
 pub(crate) fn explain_byte(alloc: Global, source: Source<'_>, at: usize, out: &mut Words) {
     let Source { name, text } = source;
     let front = piece(text, 0, at);
@@ -184,7 +186,37 @@ pub(crate) fn explain_byte(alloc: Global, source: Source<'_>, at: usize, out: &m
         all: all.as_slice(),
     };
     match said_of(alloc, tokens, rest) {
-        Ok(sentence) => source.put(at, "no token begins here", sentence, out),
+        Ok(sentence) => put_byte(source, at, sentence, out),
         Err(_) => out.starve(),
     }
+}
+
+// The place of a byte, the character that begins there, and how to fix it.
+fn put_byte(source: Source<'_>, at: usize, hint: &str, out: &mut Words) {
+    let spot = spot_at(source.text, at);
+    out.put_place(source.name, spot);
+    match character_of(piece(source.text, at, 4)) {
+        Some(c) if ' ' <= c && c <= '~' => {
+            out.say("unexpected `");
+            out.quote(&[c as u8]);
+            out.say("`");
+        }
+        Some(c) => out.escape("unexpected character U+", u32::from(c), 4, ""),
+        None => {
+            let byte = source.text.get(at).copied().unwrap_or(0);
+            out.escape("unexpected byte 0x", u32::from(byte), 2, "");
+        }
+    }
+    out.put_line(source.text, spot);
+    out.line(hint);
+}
+
+// The character that begins some bytes, if they begin with one.
+fn character_of(bytes: &[u8]) -> Option<char> {
+    for size in 1..5usize {
+        if let Ok(text) = std::str::from_utf8(piece(bytes, 0, size)) {
+            return text.chars().next();
+        }
+    }
+    None
 }

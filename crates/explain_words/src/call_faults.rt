@@ -1,6 +1,6 @@
 //! Why the calls of a file with procedures can't be replaced.
 
-use crate::habits::{OUTPUT, PRINTING};
+use crate::hints::{OUTPUT, PRINTING};
 use crate::nearest::Nearest;
 use crate::procedures::{Procedure, Procedures};
 use crate::texts::{is_word_of, length_up_to, piece, spot_at};
@@ -48,9 +48,9 @@ fn explain_fault(
         }
         InlineError::TooLarge => {
             out.name(tokens.name);
-            out.line(": without its calls the program has more than 8,192 statements");
+            out.line(": with its calls replaced, the program has more than 8,192 statements");
             out.line(
-                "Each call counts as an assignment to each scalar parameter and local, and all statements of its \
+                "Each call counts as an assignment to each scalar parameter and local, plus the statements of its \
                 procedure: call it in a loop.",
             );
         }
@@ -91,14 +91,14 @@ impl Procedures<'_> {
         tokens.put(
             second,
             if second == procedure.name {
-                " is the name of an earlier procedure too"
+                " is also the name of an earlier procedure"
             } else {
                 " is declared twice in the procedure"
             },
             out,
         );
         if let Some(first) = first {
-            out.say("It is declared first at ");
+            out.say("It is first declared at ");
             tokens.put_where(first, out);
             out.line(": give one of them another name.");
         }
@@ -119,7 +119,7 @@ impl Procedures<'_> {
         None
     }
 
-    // A name in a procedure that is none of its parameters and locals.
+    // A name in a procedure that isn't one of its parameters and locals.
     fn put_unbound(&self, alloc: Global, number: u32, out: &mut Words) -> Result<(), Memory> {
         let tokens = self.tokens;
         let Some(procedure) = self.numbered(number) else {
@@ -129,16 +129,12 @@ impl Procedures<'_> {
             return Ok(());
         };
         let Some(own) = tokens.declaration_of(at) else {
-            tokens.put(
-                at,
-                " is none of the parameters and locals of the procedure",
-                out,
-            );
+            tokens.put(at, " isn't a parameter or local of the procedure", out);
             return put_near_own(alloc, tokens, procedure, at, out);
         };
         tokens.put(
             at,
-            " is a variable of the file, which a procedure doesn't see",
+            " is a variable of the file, which a procedure can't access",
             out,
         );
         out.say("Give ");
@@ -151,7 +147,7 @@ impl Procedures<'_> {
             if own.is_array {
                 ");`."
             } else {
-                ");`. In the procedure it is then that variable, without an index."
+                ");`. In the procedure that name, without an index, is then the variable."
             },
             out,
         );
@@ -166,7 +162,7 @@ impl Procedures<'_> {
         let Some(called) = self.called(at) else {
             tokens.put(
                 at,
-                ": no procedure of this name stands before the call",
+                ": there is no procedure of this name before the call",
                 out,
             );
             return put_near_procedure(alloc, tokens, at, out);
@@ -177,15 +173,15 @@ impl Procedures<'_> {
         if called.name == caller.name {
             tokens.put(
                 at,
-                " calls itself, and a procedure calls only those before it",
+                " calls itself, but a procedure can only call earlier ones",
                 out,
             );
-            out.line("There is no recursion: write a loop, and keep what waits in an array.");
+            out.line("There is no recursion: write a loop, and keep pending values in an array.");
             return Ok(());
         }
         tokens.put(
             at,
-            " is declared after this call, and a procedure calls only those before it",
+            " is declared after this call, but a procedure can only call earlier ones",
             out,
         );
         out.say("Move the procedure at ");
@@ -207,7 +203,7 @@ impl Procedures<'_> {
         out.put_place(tokens.name, spot_at(tokens.text, tokens.start(at)));
         tokens.tell(at, " takes ", out);
         put_count(wanted, out);
-        out.fill(", and {} ", &[given]);
+        out.fill(", but {} ", &[given]);
         out.say(if given == 1 { "is given" } else { "are given" });
         out.put_line(tokens.text, spot_at(tokens.text, tokens.start(at)));
         put_head(tokens, called, out);
@@ -231,7 +227,7 @@ impl Procedures<'_> {
                 out.put_place(tokens.name, spot_at(tokens.text, tokens.start(first)));
                 out.say("argument ");
                 tokens.tell(param.declared.name, "[] of ", out);
-                tokens.tell(at, " is an array, which is passed by its bare name", out);
+                tokens.tell(at, " is an array, which is passed by its name only", out);
                 out.put_line(tokens.text, spot_at(tokens.text, tokens.start(first)));
                 return put_head(tokens, called, out);
             }
@@ -304,7 +300,7 @@ fn put_near_own(
         Some(known) => out.suggest(known),
         None => {
             out.say(
-                "Declare it as a parameter, or first of all in the procedure as a local: `secret int ",
+                "Declare it as a parameter, or as a local at the beginning of the procedure: `secret int ",
             );
             tokens.tell(at, ";`.", out);
             out.line("");
@@ -335,7 +331,7 @@ impl<'a> Tokens<'a> {
         Ok((names, None))
     }
 
-    // The first name in a procedure's statements that is none of its parameters and locals.
+    // The first name in a procedure's statements that isn't one of its parameters and locals.
     fn unbound_name(&self, alloc: Global, procedure: Procedure) -> Result<Option<usize>, Memory> {
         let (names, _) = self.own_names(alloc, procedure)?;
         for at in procedure.body..procedure.end.max(procedure.body) {

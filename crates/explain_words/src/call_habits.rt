@@ -1,6 +1,6 @@
 //! The habits of C about procedures and calls, as tables.
 
-use crate::habits::{Habit, sentence_of};
+use crate::habit_search::{Habit, sentence_of};
 use crate::tokens::Tokens;
 use crate::wanted::Wanted;
 
@@ -28,7 +28,7 @@ const WITH_PROCEDURES: &[Habit] = &[
         "[",
         "",
         ";",
-        "A local is one word: declare the array at the head of the file, and pass it to a parameter `int a[]`.",
+        "A local is one word: declare the array at the beginning of the file, and pass it to a parameter `int a[]`.",
     ],
     [
         "call",
@@ -88,7 +88,7 @@ const WITHOUT_OPTION: &[Habit] = &[
         "(",
         "",
         "= [",
-        "A call needs the option --procs, and a procedure of that name before it.",
+        "A call needs the option --procs, and an earlier procedure of that name.",
     ],
 ];
 
@@ -99,7 +99,7 @@ const WITHOUT_PROCEDURES: &[Habit] = &[[
     "(",
     "",
     "= [",
-    "No function has this name: a statement is an assignment, an `if` or a `while`.",
+    "There is no function of this name: a statement is an assignment, an `if` or a `while`.",
 ]];
 
 /// The sentence for a habit about procedures and calls, which only a file with procedures may have.

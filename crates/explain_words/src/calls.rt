@@ -7,6 +7,7 @@ ghost use Rattle.explain_words.specs.Plain.{IsPlain};
 
 use crate::assembly::explain_assembly;
 use crate::buses::{Core, explain_bus};
+use crate::cases::explain_cases;
 use crate::duplicates::warn_of_inputs;
 use crate::inputs::{explain_inputs, variables_of_object, variables_of_source};
 use crate::looks::put_other_kind;
@@ -25,23 +26,28 @@ use std::marker::Model;
 /// The logarithm of a block's words for which no option says a number.
 const USUAL_BLOCK_LOG: u8 = 9;
 
+/// The limit of cycles and of iterations without an option.
+const USUAL_LIMIT: u64 = 1_000_000_000;
+
 /// What a file of a call is to be.
 #[derive(Clone, Copy)]
-pub enum Kind {
+pub enum FileKind {
     Object,
     Source,
     Inputs,
     Assembly,
+    Cases,
 }
 
-impl Kind {
+impl FileKind {
     // The kind of file that a word of a verb's line names.
-    fn named(word: &str) -> Option<Kind> {
+    fn named(word: &str) -> Option<FileKind> {
         match word {
-            "OBJ" => Some(Kind::Object),
-            "SRC" => Some(Kind::Source),
-            "INPUT" => Some(Kind::Inputs),
-            "TEXT" => Some(Kind::Assembly),
+            "OBJ" => Some(FileKind::Object),
+            "SRC" => Some(FileKind::Source),
+            "INPUT" => Some(FileKind::Inputs),
+            "TEXT" => Some(FileKind::Assembly),
+            "CASES" => Some(FileKind::Cases),
             _ => None,
         }
     }
@@ -51,10 +57,11 @@ impl Kind {
         ensures { result ≤ 67108864 }
     {
         match self {
-            Kind::Object => 33_554_432,
-            Kind::Source => 1_048_576,
-            Kind::Inputs => 67_108_864,
-            Kind::Assembly => 67_108_864,
+            FileKind::Object => 33_554_432,
+            FileKind::Source => 1_048_576,
+            FileKind::Inputs => 67_108_864,
+            FileKind::Assembly => 67_108_864,
+            FileKind::Cases => 67_108_864,
         }
     }
 }
@@ -64,7 +71,7 @@ impl Kind {
 #[derive(Clone, Copy)]
 pub struct File<'a> {
     pub name: &'a str,
-    pub kind: Kind,
+    pub kind: FileKind,
     pub bytes: &'a [u8],
 }
 
@@ -111,23 +118,23 @@ impl<'a, 'b> Call<'a, 'b> {
     }
 
     /// What the file in a place is to be, if the fault may be there, or if a call that did its work may have warnings of it.
-    pub fn kind_at(&self, place: usize) -> Option<Kind>
+    pub fn kind_at(&self, place: usize) -> Option<FileKind>
         ensures { IfSome result (MayHaveFault self.now) }
     {
         let mut places = self.usage.split(" ").skip(1);
         let repeats = is_word_of(self.usage, b"..");
-        let kind = Kind::named(places.nth(if repeats { place % 2 } else { place })?)?;
+        let kind = FileKind::named(places.nth(if repeats { place % 2 } else { place })?)?;
         if self.is_read(kind) { Some(kind) } else { None }
     }
 
     // Whether files of a kind are read again.
-    fn is_read(&self, kind: Kind) -> bool
+    fn is_read(&self, kind: FileKind) -> bool
         ensures { result ≡ true → MayHaveFault self.now kind }
     {
         match self.status {
-            6 | 7 | 13 => matches!(kind, Kind::Object),
-            8 => matches!(kind, Kind::Source),
-            12 => matches!(kind, Kind::Assembly),
+            6 | 7 | 13 => matches!(kind, FileKind::Object),
+            8 => matches!(kind, FileKind::Source),
+            12 => matches!(kind, FileKind::Assembly),
             9 | 11 => true,
             0 => self.is_warned(kind),
             _ => false,
@@ -135,14 +142,15 @@ impl<'a, 'b> Call<'a, 'b> {
     }
 
     // Whether a file of a call that did its work may have warnings.
-    fn is_warned(&self, kind: Kind) -> bool
+    fn is_warned(&self, kind: FileKind) -> bool
         ensures { result ≡ true → MayHaveWarnings kind }
     {
         match kind {
-            Kind::Source => is_word_of("compile eval", self.verb().as_bytes()),
-            Kind::Inputs => is_word_of("eval run trace", self.verb().as_bytes()),
-            Kind::Object => false,
-            Kind::Assembly => false,
+            FileKind::Source => is_word_of("compile eval", self.verb().as_bytes()),
+            FileKind::Inputs => is_word_of("eval run trace", self.verb().as_bytes()),
+            FileKind::Object => false,
+            FileKind::Assembly => false,
+            FileKind::Cases => false,
         }
     }
 
@@ -157,15 +165,46 @@ impl<'a, 'b> Call<'a, 'b> {
         self.sorted.has("--procs") || self.verb() == "expand"
     }
 
-    // Whether the program has to have room.
+    // For which target the program is compiled, if it is.
     fn room(&self) -> Room {
-        if self.verb() != "compile" {
+        if !is_word_of(
+            "compile layout listing profile test",
+            self.verb().as_bytes(),
+        ) {
             return Room::Unasked;
         }
-        Room::Blocks(match self.sorted.value("--block-log") {
+        let block_log = match self.sorted.value("--block-log") {
             Some(log) => log.parse::<u8>().unwrap_or(USUAL_BLOCK_LOG),
             None => USUAL_BLOCK_LOG,
-        })
+        };
+        Room::Blocks {
+            block_log,
+            is_fast: self.sorted.has("--fast"),
+        }
+    }
+
+    // The number that an option gives, or what it is without the option.
+    fn number_of(&self, option: &str, usual: u64) -> u64 {
+        match self.sorted.value(option) {
+            Some(number) => number.parse::<u64>().unwrap_or(usual),
+            None => usual,
+        }
+    }
+
+    // What to do about a run or an evaluation that reached its limit.
+    fn put_spent(&self, out: &mut Words) {
+        if self.verb() == "eval" {
+            out.fill(
+                "The loops reached the limit of {} iterations. Raise it with --turns N, or check for an endless \
+                loop.\n",
+                &[self.number_of("--turns", USUAL_LIMIT)],
+            )
+        } else {
+            out.fill(
+                "The run reached the limit of {} cycles. Raise it with --cycles N, or check for an endless loop.\n",
+                &[self.number_of("--cycles", USUAL_LIMIT)],
+            )
+        }
     }
 
     /// What the fault means, by the files that were read again: nothing where nothing can be said. If the call did its work,
@@ -192,15 +231,11 @@ impl<'a, 'b> Call<'a, 'b> {
     fn explain(&self, alloc: Global, files: &[File<'_>], out: &mut Words) {
         match self.status {
             0 => for file in files {
-                warn_of(alloc, file, out);
+                warn_of(alloc, file, self.sorted.has("--fast"), out);
             },
             2 => explain_usage(self.usage, self.words, &self.sorted, out),
             9 => self.explain_pairs(alloc, files, out),
-            10 => out.line(if self.verb() == "eval" {
-                "The loops took all turns that they had. Give them more by --turns N, or see that each loop ends."
-            } else {
-                "The run took all cycles that it had. Give it more by --cycles N, or see that each loop ends."
-            }),
+            10 => self.put_spent(out),
             13 => match cores_of(alloc, files) {
                 Ok(cores) => explain_bus(&cores, out),
                 Err(_) => out.starve(),
@@ -233,20 +268,40 @@ impl<'a, 'b> Call<'a, 'b> {
             _ => if bytes.len() > file.kind.most_bytes() {
                 out.name(name);
                 out.fill(
-                    " has more than {} bytes, and none that long can be right here.\n",
+                    " has more than {} bytes, which is the limit for such a file.\n",
                     &[file.kind.most_bytes() as u64],
                 );
             },
         }
     }
 
-    // The first inputs that don't fit the file before them.
+    // The first inputs that don't fit the object or the source that they follow, or a file without cases.
     fn explain_pairs(&self, alloc: Global, files: &[File<'_>], out: &mut Words) {
-        for (first, second) in files.iter().zip(files.iter().skip(1)) {
-            if out.is_empty() && matches!(second.kind, Kind::Inputs) {
-                if let Some(wants) = self.variables_of(alloc, first) {
-                    explain_inputs(alloc, second.name, second.bytes, &wants, out);
+        let mut program: Option<File<'_>> = None;
+        for file in files {
+            if out.is_empty() {
+                match file.kind {
+                    FileKind::Object => program = Some(*file),
+                    FileKind::Source => program = Some(*file),
+                    FileKind::Inputs => self.explain_given(alloc, program, file, out),
+                    FileKind::Cases => explain_cases(file.name, file.bytes, out),
+                    FileKind::Assembly => {}
                 }
+            }
+        }
+    }
+
+    // Why inputs don't fit a program.
+    fn explain_given(
+        &self,
+        alloc: Global,
+        program: Option<File<'_>>,
+        inputs: &File<'_>,
+        out: &mut Words,
+    ) {
+        if let Some(program) = program {
+            if let Some(wants) = self.variables_of(alloc, &program) {
+                explain_inputs(alloc, inputs.name, inputs.bytes, &wants, out);
             }
         }
     }
@@ -255,22 +310,23 @@ impl<'a, 'b> Call<'a, 'b> {
         ensures { IfSome result (λ wants. AreVariables wants.items) }
     {
         match file.kind {
-            Kind::Object => variables_of_object(alloc, file.bytes),
-            Kind::Source => variables_of_source(alloc, file.bytes, self.has_procs()),
+            FileKind::Object => variables_of_object(alloc, file.bytes),
+            FileKind::Source => variables_of_source(alloc, file.bytes, self.has_procs()),
             _ => None,
         }
     }
 }
 
 // Warns of what a file of a call that did its work may not mean.
-fn warn_of(alloc: Global, file: &File<'_>, out: &mut Words) {
+fn warn_of(alloc: Global, file: &File<'_>, is_fast: bool, out: &mut Words) {
     let name = file.name;
     let text = file.bytes;
     match file.kind {
-        Kind::Inputs => warn_of_inputs(alloc, name, text, out),
-        Kind::Source => warn_of_source(alloc, name, text, out),
-        Kind::Object => {}
-        Kind::Assembly => {}
+        FileKind::Inputs => warn_of_inputs(alloc, name, text, out),
+        FileKind::Source => warn_of_source(alloc, name, text, is_fast, out),
+        FileKind::Object => {}
+        FileKind::Assembly => {}
+        FileKind::Cases => {}
     }
 }
 

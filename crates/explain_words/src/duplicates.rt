@@ -48,5 +48,5 @@ fn warned(alloc: Global, name: &str, text: &[u8], out: &mut Words) -> Result<(),
 fn put_twice(name: &str, text: &[u8], at: usize, member: &[u8], out: &mut Words) {
     out.put_warning(name, spot_at(text, at));
     out.quote(member);
-    out.line(" is given twice: the last value counts");
+    out.line(" is given twice: the last value is used");
 }

@@ -2,6 +2,9 @@
 
 use crate::texts::piece;
 
+/// What is allowed in a field that the instruction doesn't use.
+const NONE: &str = "any, but 0 if the instruction doesn't use it";
+
 /// A field: what it is called, and what is allowed in it.
 #[derive(Clone, Copy)]
 pub(crate) struct Field {
@@ -65,7 +68,7 @@ fn head_field(at: usize, banks: usize) -> Field {
         15..=18 => ("the cycle at which the window opens", "below the period"),
         _ => (
             "the cycle at which the window closes",
-            "above the one at which it opens, at most the period",
+            "above the cycle at which it opens, and at most the period",
         ),
     };
     field_of(name, allowed, None)
@@ -107,7 +110,7 @@ fn field_of_symbol(at: usize, start: usize, place: usize, number: usize) -> Fiel
     } else if at < place {
         (
             "the name of symbol",
-            "ASCII letters, digits and `_`, no digit first; no earlier symbol's name",
+            "ASCII letters, digits and `_`, but no digit first, and not the name of an earlier symbol",
         )
     } else {
         match at.saturating_sub(place) {
@@ -115,16 +118,17 @@ fn field_of_symbol(at: usize, start: usize, place: usize, number: usize) -> Fiel
             1 => ("the shape of symbol", "0 scalar, 1 array"),
             2 => (
                 "the bank of symbol",
-                "a bank of the object, not below that of the symbol before",
+                "a bank of the object, not below the bank of the previous symbol",
             ),
             3..=6 => ("the block of symbol", "below the bank's blocks"),
             7 | 8 => (
                 "the word of symbol",
-                "below the words of a block, and behind the end of the symbol before in its bank",
+                "below the words of a block, and after the end of the previous symbol in its bank",
             ),
             _ => (
                 "the length of symbol",
-                "1 for a scalar, 1 to 1,048,576 for an array, within its bank, all at most 4,194,304",
+                "1 for a scalar, 1 to 1,048,576 for an array; within its bank, and at most 4,194,304 for all symbols \
+                together",
             ),
         }
     };
@@ -143,7 +147,7 @@ fn note_field(bytes: &[u8], at: usize, notes: usize) -> Field {
         return match ahead % 16 {
             0..=3 => field_of(
                 "the place of note",
-                "above the place of the note before",
+                "above the place of the previous note",
                 number,
             ),
             4..=7 => field_of("the secret registers of note", "any", number),
@@ -170,14 +174,10 @@ fn instruction_field(ahead: usize) -> Field {
         ),
         1..=3 => field_of(
             "an operand of instruction",
-            "a register below 32, a slot below 8, a bank of the object, or 0 where there is none",
+            "a register below 32, a slot below 8, a bank of the object, or 0 if the instruction has no such operand",
             number,
         ),
-        4..=7 => field_of("the offset of instruction", "0 where there is none", number),
-        _ => field_of(
-            "the constant of instruction",
-            "0 where there is none",
-            number,
-        ),
+        4..=7 => field_of("the offset of instruction", NONE, number),
+        _ => field_of("the constant of instruction", NONE, number),
     }
 }

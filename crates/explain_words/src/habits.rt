@@ -1,33 +1,17 @@
 //! The habits of C that this language doesn't know, as one table.
 
-use crate::texts::is_word_of;
+use crate::habit_search::{Habit, sentence_of};
+use crate::hints::{
+    COMPARISON, FOR, LISTS, LOOP_AND, LOOP_OR, NO_VALUE, OUTPUT, PRINTING, PROCEDURE, RESULT,
+    SWITCH,
+};
 use crate::tokens::Tokens;
 use crate::wanted::Wanted;
 
-/// A habit of another language, by the tokens around an unexpected one: the first of its statement, the one before it,
-/// itself, and the one after it, each one of some words, or any if there is no word; the tokens expected there, or any;
-/// and how to write here what was meant.
-pub(crate) type Habit = [&'static str; 6];
-
-/// Words of other languages for output.
-pub(crate) const PRINTING: &str = "print printf println puts putchar echo write output";
-
-/// Where the output of a program is.
-pub(crate) const OUTPUT: &str =
-    "A program prints nothing: the final values of its variables are its output, which `eval` and `run` write.";
-
-/// How to write a loop that counts.
-pub(crate) const FOR: &str = "There is no `for`: write `i = 0; while (i < n) { .. i = i + 1; }`.";
-
 const HABITS: &[Habit] = &[
-    [
-        "function func fn def void",
-        "",
-        "",
-        "",
-        "=",
-        "A procedure is written `proc f(secret int p; int a[]) { .. }`, and needs the option --procs.",
-    ],
+    ["proc", "proc", "int void public secret", "", "", RESULT],
+    ["public secret", "", "(", "", "; [", PROCEDURE],
+    ["function func fn def void", "", "", "", "=", PROCEDURE],
     [
         "public secret",
         "public secret",
@@ -82,10 +66,10 @@ const HABITS: &[Habit] = &[
         "",
         "",
         "",
-        "There is no `not`: compare by `!=`, or exchange the two blocks of the choice.",
+        "There is no `not`: compare with `!=`, or swap the two blocks of the `if`.",
     ],
     ["", "", "is", "", "", "Equality is written `==`."],
-    ["", "", "div", "", "", "A quotient is written `x / y`."],
+    ["", "", "div", "", "", "Division is written `x / y`."],
     ["", "", "mod rem", "", "", "A remainder is written `x % y`."],
     [
         "",
@@ -133,7 +117,7 @@ const HABITS: &[Habit] = &[
         "{",
         "",
         "if",
-        "A statement doesn't begin with a `{`: a block follows a guard or an `else`.",
+        "A statement doesn't begin with a `{`: a block follows a condition or an `else`.",
     ],
     [PRINTING, "", "(", "", "", OUTPUT],
     [
@@ -150,7 +134,7 @@ const HABITS: &[Habit] = &[
         "int",
         "main",
         "",
-        "There is no `main`: a file has declarations and then statements, which no function surrounds.",
+        "There is no `main`: write the declarations and then the statements, outside any function.",
     ],
     [
         "let var auto val",
@@ -158,7 +142,8 @@ const HABITS: &[Habit] = &[
         "",
         "",
         "=",
-        "Declare the variable at the head of the file, `public int x;` or `secret int x;`, and assign below: `x = 1;`.",
+        "Declare the variable at the beginning of the file, `public int x;` or `secret int x;`, and assign to it \
+        later: `x = 1;`.",
     ],
     [
         "elif elseif elsif",
@@ -175,32 +160,33 @@ const HABITS: &[Habit] = &[
         "",
         "",
         "=",
-        "There is no `do`: write `while (..) { .. }`, and its first turn before it if need be.",
+        "There is no `do`: write `while (..) { .. }`, and before it the first iteration, if you need it.",
     ],
-    [
-        "switch",
-        "",
-        "",
-        "",
-        "=",
-        "There is no `switch`: nest `if (x == 1) { .. } else { .. }`.",
-    ],
+    ["switch", "", "", "", "=", SWITCH],
     [
         "return break continue goto",
         "",
         "",
         "",
         "=",
-        "There is no `return`, `break`, `continue` or `goto`: a program ends with its last statement, and a \
-        loop by its guard.",
+        "There is no `return`, `break`, `continue` or `goto`: a program ends after its last statement, and a loop when \
+        its condition is false.",
     ],
     [
-        "char long short unsigned signed float double bool string const static private final",
+        "const static final",
         "",
         "",
         "",
         "=",
-        "There is one type: `public int x;` or `secret int x;`, a word of 64 bits with a sign.",
+        "There are no constants: declare a variable, `public int n;`, and assign its value first, `n = 10;`.",
+    ],
+    [
+        "char long short unsigned signed float double bool string private",
+        "",
+        "",
+        "",
+        "=",
+        "The only type is `int`, a signed word of 64 bits: `public int x;` or `secret int x;`.",
     ],
     [
         "",
@@ -208,7 +194,7 @@ const HABITS: &[Habit] = &[
         "int",
         "",
         "public",
-        "Say who may know the variable: `public int x;` or `secret int x;`.",
+        "Declare a variable as public or secret: `public int x;` or `secret int x;`.",
     ],
     [
         "",
@@ -216,24 +202,26 @@ const HABITS: &[Habit] = &[
         "int public secret",
         "",
         "if",
-        "Declarations are at the head of the file, before all procedures and statements, or at the head of a \
+        "Declarations are at the beginning of the file, before all procedures and statements, or at the beginning of a \
         procedure: move this one up.",
     ],
+    ["while", "&", "&", "", "", LOOP_AND],
     [
         "",
         "&",
         "&",
         "",
         "",
-        "There is no `&&`: nest two choices, `if (x > 0) { if (x < 3) { .. } }`.",
+        "There is no `&&`: nest two `if`s, `if (x > 0) { if (x < 3) { .. } }`.",
     ],
+    ["while", "|", "|", "", "", LOOP_OR],
     [
         "",
         "|",
         "|",
         "",
         "",
-        "There is no `||`: write the block after both guards, or add up a word that counts them.",
+        "There is no `||`: repeat the block in a second `if`, or count in a variable which conditions hold.",
     ],
     [
         "",
@@ -276,39 +264,34 @@ const HABITS: &[Habit] = &[
         "",
         "There is no `>>>`: `>>` keeps the sign.",
     ],
-    ["", "<", ">", "", "", "There is no `<>`: compare by `!=`."],
+    ["", "<", ">", "", "", "There is no `<>`: compare with `!=`."],
     [
         "",
         "== !=",
         "=",
         "",
         "",
-        "There is no `===` or `!==`: compare by `==` or `!=`.",
+        "There is no `===` or `!==`: compare with `==` or `!=`.",
     ],
+    ["while", "", "and", "", "", LOOP_AND],
     [
         "",
         "",
         "and",
         "",
         "",
-        "There is no `and`: nest two choices, `if (x > 0) { if (x < 3) { .. } }`.",
+        "There is no `and`: nest two `if`s, `if (x > 0) { if (x < 3) { .. } }`.",
     ],
+    ["while", "", "or", "", "", LOOP_OR],
     [
         "",
         "",
         "or",
         "",
         "",
-        "There is no `or`: write the block after both guards, or add up a word that counts them.",
+        "There is no `or`: repeat the block in a second `if`, or count in a variable which conditions hold.",
     ],
-    [
-        "",
-        "",
-        "{ [",
-        "",
-        "( - 1 x",
-        "There are no lists of values: assign each element, as in `a[0] = 1; a[1] = 2;`, or give them by the inputs.",
-    ],
+    ["", "", "{ [", "", "( - 1 x", LISTS],
     [
         "public secret",
         "int",
@@ -363,7 +346,7 @@ const HABITS: &[Habit] = &[
         "",
         "",
         "(",
-        "A guard is in parentheses: `if (x > 0) { x = 1; }`.",
+        "A condition is in parentheses: `if (x > 0) { x = 1; }`.",
     ],
     [
         "if while",
@@ -374,12 +357,20 @@ const HABITS: &[Habit] = &[
         "The block of an `if`, an `else` or a `while` is in braces: `if (x > 0) { x = 1; }`.",
     ],
     [
-        "if while",
+        "while",
         "",
         ")",
         "",
         "==",
-        "A guard compares two expressions: write `if (x != 0)`.",
+        "A condition compares two expressions: write `while (x != 0)`.",
+    ],
+    [
+        "if",
+        "",
+        ")",
+        "",
+        "==",
+        "A condition compares two expressions: write `if (x != 0)`.",
     ],
     [
         "if while",
@@ -387,7 +378,7 @@ const HABITS: &[Habit] = &[
         "=",
         "",
         "",
-        "A guard compares by `==`: write `if (x == 1)`; an assignment is a statement of its own.",
+        "A condition compares with `==`, as in `if (x == 1)`; an assignment is a statement of its own.",
     ],
     [
         "if while",
@@ -395,7 +386,8 @@ const HABITS: &[Habit] = &[
         "== != < <= > >=",
         "",
         "",
-        "A guard has one comparison: nest two choices, `if (0 < x) { if (x < 3) { .. } }`.",
+        "A condition is one comparison, not in further parentheses: nest two `if`s, `if (0 < x) { if (x < 3) { .. } \
+        }`.",
     ],
     [
         "public secret",
@@ -403,7 +395,7 @@ const HABITS: &[Habit] = &[
         "=",
         "",
         "",
-        "A declaration gives no value: write `public int x;`, and below all declarations `x = 5;`.",
+        "A declaration doesn't assign a value: write `public int x;`, and after all declarations `x = 5;`.",
     ],
     [
         "public secret",
@@ -411,7 +403,7 @@ const HABITS: &[Habit] = &[
         "",
         "",
         "1",
-        "An array has a length that is a number: `secret int a[32];`.",
+        "The length of an array is a number: `secret int a[32];`.",
     ],
     [
         "",
@@ -421,14 +413,8 @@ const HABITS: &[Habit] = &[
         "=",
         "An assignment is written with one `=`: `x = 1;`.",
     ],
-    [
-        "",
-        "",
-        "== != < <= > >=",
-        "",
-        ";",
-        "A comparison is only allowed in a guard: write `x = 0; if (s > 2) { x = 1; }`.",
-    ],
+    ["", "", "== != < <= > >=", "", ";", COMPARISON],
+    ["", "", "== != < <= > >=", "", ")", COMPARISON],
     [
         "",
         "",
@@ -461,7 +447,7 @@ const HABITS: &[Habit] = &[
         ";",
         "",
         "=",
-        "A name alone is no statement: write `x = 1;`.",
+        "A name isn't a statement: write `x = 1;`.",
     ],
     [
         "",
@@ -481,37 +467,20 @@ const HABITS: &[Habit] = &[
     ],
 ];
 
-const NO_VALUE: &str = "A call has no value: compute it by statements before this one.";
-
-fn is_among(words: &str, token: &[u8]) -> bool {
-    words.is_empty() || is_word_of(words, token)
-}
-
-fn fits(habit: &Habit, tokens: Tokens<'_>, at: usize, wanted: &Wanted) -> bool {
-    let [begins, before, here, behind, wants, _] = *habit;
-    is_among(begins, tokens.word(tokens.first_of(at)))
-        && is_among(before, tokens.before(at))
-        && is_among(here, tokens.word(at))
-        && is_among(behind, tokens.word(at.saturating_add(1)))
-        && (wants.is_empty() || wanted.has_each(wants))
-}
-
-/// The sentence of the first habit that fits.
-pub(crate) fn sentence_of(
-    habits: &'static [Habit],
-    tokens: Tokens<'_>,
-    at: usize,
-    wanted: &Wanted,
-) -> Option<&'static str> {
-    for habit in habits {
-        if fits(habit, tokens, at, wanted) {
-            return Some(habit[5]);
-        }
-    }
-    None
+// Whether a function of C begins at a token, other than `main`.
+fn begins_function(tokens: Tokens<'_>, at: usize) -> bool {
+    let name = at.saturating_add(1);
+    tokens.is(at, "int")
+        && tokens.is_head(at)
+        && tokens.is_name(name)
+        && !tokens.is(name, "main")
+        && tokens.is(at.saturating_add(2), "(")
 }
 
 /// How to write here what was meant, if a known habit leads to the unexpected token.
 pub(crate) fn said_here(tokens: Tokens<'_>, at: usize, wanted: &Wanted) -> Option<&'static str> {
+    if begins_function(tokens, at) {
+        return Some(PROCEDURE);
+    }
     sentence_of(HABITS, tokens, at, wanted)
 }

@@ -18,7 +18,7 @@ pub(crate) enum Bound {
     Own(Declared),
     /// The array parameter of a number: another name of what the caller names in that argument.
     Argument(usize),
-    /// None of its parameters and locals.
+    /// Not one of its parameters and locals.
     Nothing,
 }
 

@@ -3,24 +3,24 @@
 ghost use Rattle.std.specs.Prelude.{IfSome};
 ghost use Rattle.gr_word.specs.Prelude.{AreVariables};
 
-use crate::calls::Kind;
+use crate::calls::FileKind;
 use crate::json_faults::{JsonFault, json_fault, unread_at};
 use crate::looks::put_other_kind;
-use crate::members::{Described, ValueKind, described_member, item_at, member_at};
+use crate::members::{Described, ValueKind, described_member, item_at, member_at, value_at};
 use crate::nearest::Nearest;
 use crate::objects::object_in;
 use crate::shown_names::is_added;
-use crate::texts::{Source, spot_at};
+use crate::texts::{Source, piece, spot_at};
 use crate::tokens::SOURCE_BYTES;
 use crate::words::Words;
 use flow_types::type_program;
 use gr_base::Memory;
 use gr_word::{Shape, Want};
 use procs_parser::parse_procs;
-use run_data::{INPUT_BYTES, InputError, NameText, read_inputs};
+use run_data::{INPUT_BYTES, InputError, Name2, read_inputs};
 use src_lexer::{Token, lex};
 use src_parser::parse;
-use src_procs::inline;
+use src_procs::inline_owned;
 use src_tree::Program;
 use std::alloc::Global;
 
@@ -58,18 +58,24 @@ fn program_of(alloc: Global, tokens: &[Token], has_procs: bool) -> Option<Progra
         return parse(alloc, tokens).ok();
     }
     match parse_procs(alloc, tokens) {
-        Ok(file) => inline(alloc, file).ok(),
+        Ok(file) => inline_owned(alloc, file).ok(),
         Err(_) => None,
     }
 }
 
 /// The form of inputs.
 const JSON_FORM: &str =
-    "Inputs are one object, `{\"n\":3,\"a\":[1,2,3]}`: names in double quotation marks, decimal integers, and a comma \
-    between two members or items, with none after the last.";
+    "Inputs are one JSON object, such as `{\"n\":3,\"a\":[1,2,3]}`: names in double quotation marks, decimal integers, \
+    and a comma between two members or items, but none after the last.";
 
 /// The most variables that are named.
 const NAMES_SHOWN: u32 = 20;
+
+/// The most bytes of an unknown name that is shown.
+const NAME_BYTES: usize = 64;
+
+/// The first bytes of a text with a byte order mark.
+const ORDER_MARK: &[u8] = &[239, 187, 191];
 
 /// A text of inputs, and what it should give.
 #[derive(Clone, Copy)]
@@ -104,8 +110,8 @@ impl Given<'_> {
             InputError::BadJson => self.no_json(alloc, out),
             InputError::NotAnObject => self.source.put(
                 0,
-                "the inputs are no JSON object",
-                "Inputs are one object, with a member for each variable: `{\"n\":3,\"a\":[1,2,3]}`.",
+                "the inputs aren't a JSON object",
+                "Inputs are one JSON object with a member for each variable, such as `{\"n\":3,\"a\":[1,2,3]}`.",
                 out,
             ),
             InputError::UnknownName(name) => self.unknown(alloc, name.text(), out),
@@ -121,7 +127,15 @@ impl Given<'_> {
     }
 
     fn no_json(&self, alloc: Global, out: &mut Words) {
-        if put_other_kind(self.source.name, Kind::Inputs, self.source.text, out) {
+        if piece(self.source.text, 0, 3) == ORDER_MARK {
+            return self.source.put(
+                0,
+                "the inputs begin with a byte order mark",
+                "Remove the first three bytes of the file, with `tail -c +4`.",
+                out,
+            );
+        }
+        if put_other_kind(self.source.name, FileKind::Inputs, self.source.text, out) {
             return;
         }
         match json_fault(alloc, self.source.text) {
@@ -146,16 +160,22 @@ impl Given<'_> {
     // A text whose fault is only known to the reader of inputs, as a number that is too big.
     fn put_unread(&self, alloc: Global, out: &mut Words) {
         match unread_at(alloc, self.source.text) {
-            Ok(at) => self
-                .source
-                .put(at, "the text is no JSON value up to here", JSON_FORM, out),
+            Ok(at) => self.source.put(at, "this isn't valid JSON", JSON_FORM, out),
             Err(_) => out.starve(),
         }
     }
 
     fn unknown(&self, alloc: Global, name: &str, out: &mut Words) {
-        self.source
-            .point(self.member(name), "no variable has this name", out);
+        let spot = spot_at(self.source.text, self.member(name));
+        out.put_place(self.source.name, spot);
+        if name.len() <= NAME_BYTES {
+            out.say("there is no variable `");
+            out.name(name);
+            out.say("`");
+        } else {
+            out.say("there is no variable of this name");
+        }
+        out.put_line(self.source.text, spot);
         match nearest_variable(alloc, name, self.wants) {
             Ok(Some(nearest)) => out.suggest(nearest),
             Ok(None) => {}
@@ -167,21 +187,21 @@ impl Given<'_> {
     // Adds the names of the first variables, without those that calls add.
     fn put_variables(&self, out: &mut Words) {
         let mut count = 0u32;
-        out.say("The variables are");
+        out.say("The variables are:");
         for want in self.wants {
             if !is_added(want.name.bytes()) {
                 if count == NAMES_SHOWN {
-                    return out.line(" ..");
+                    return out.line(", ..");
                 }
+                out.say(if count == 0 { " " } else { ", " });
                 count = count.saturating_add(1);
-                out.say(" ");
                 out.quote(want.name.bytes());
             }
         }
-        out.line("");
+        out.line(".");
     }
 
-    // A member whose value isn't what its variable wants.
+    // A member whose value isn't what its variable needs.
     fn misfit(&self, alloc: Global, name: &str, out: &mut Words) {
         match described_member(alloc, self.source.text, name) {
             Ok(Some(value)) => self.unfitting(name, value, out),
@@ -200,26 +220,38 @@ impl Given<'_> {
 
     fn put_misfit(&self, want: &Want, name: &str, value: Described, out: &mut Words) {
         let text = self.source.text;
-        let member = self.member(name);
         let unfit = unfit_item(want, value);
-        let (at, shown) = match unfit {
-            Some((number, kind)) => (
-                item_at(text, member, number as usize).unwrap_or(member),
-                kind,
-            ),
-            None => (member, value.kind),
-        };
-        let spot = spot_at(text, at);
+        let spot = spot_at(text, self.misfit_at(name, unfit));
         out.put_place(self.source.name, spot);
+        out.say("`");
         out.name(name);
-        match unfit {
-            Some((number, _)) => out.fill("[{}] wants an integer", &[number]),
-            None => put_want(want, out),
+        match (unfit, want.shape) {
+            (Some((number, kind)), _) => {
+                out.fill("[{}]` must be a signed 64-bit integer", &[number]);
+                put_other(kind, out)
+            }
+            (None, Shape::Scalar) => {
+                out.say("` must be a signed 64-bit integer");
+                put_other(value.kind, out)
+            }
+            (None, Shape::Array) => put_list(u64::from(want.length), value.kind, out),
         }
-        out.say(", and this is ");
-        put_kind(shown, out);
         out.put_line(text, spot);
-        out.line("A word is a decimal integer from -9223372036854775808 to 9223372036854775807.");
+        out.line("Each integer is in decimal, from -9223372036854775808 to 9223372036854775807.");
+    }
+
+    // The byte at which the value of a name isn't what its variable needs: the value, or an item of its list.
+    fn misfit_at(&self, name: &str, unfit: Option<(u64, ValueKind)>) -> usize {
+        let text = self.source.text;
+        let member = self.member(name);
+        if member == 0 {
+            return 0;
+        }
+        let found = match unfit {
+            Some((number, _)) => item_at(text, member, number as usize),
+            None => value_at(text, member),
+        };
+        found.unwrap_or(member)
     }
 }
 
@@ -250,21 +282,29 @@ fn unfit_item(want: &Want, value: Described) -> Option<(u64, ValueKind)> {
     }
 }
 
-fn put_want(want: &Want, out: &mut Words) {
-    match want.shape {
-        Shape::Scalar => out.say(" wants an integer"),
-        Shape::Array => out.fill(" wants a list of {} integers", &[u64::from(want.length)]),
+// What an array of a length needs in place of a value.
+fn put_list(length: u64, kind: ValueKind, out: &mut Words) {
+    match kind {
+        ValueKind::List(count) => out.fill(
+            "` needs {} integers, but the list has {}",
+            &[length, count],
+        ),
+        _ => {
+            out.fill("` must be a list of {} integers", &[length]);
+            put_other(kind, out)
+        }
     }
 }
 
-fn put_kind(kind: ValueKind, out: &mut Words) {
-    match kind {
-        ValueKind::Null => out.say("null"),
-        ValueKind::Truth => out.say("true or false"),
-        ValueKind::Word => out.say("a number"),
-        ValueKind::Number => out.say("a number that is no integer of 64 bits with a sign"),
-        ValueKind::Text => out.say("a text"),
-        ValueKind::List(count) => out.fill("a list of {}", &[count]),
-        ValueKind::Object => out.say("an object"),
-    }
+// What a value is in place of another. A number that isn't a word is only called so by what is needed.
+fn put_other(kind: ValueKind, out: &mut Words) {
+    out.say(match kind {
+        ValueKind::Null => ", not null",
+        ValueKind::Truth => ", not true or false",
+        ValueKind::Word => ", not a number",
+        ValueKind::Number => "",
+        ValueKind::Text => ", not a text",
+        ValueKind::List(_) => ", not a list",
+        ValueKind::Object => ", not an object",
+    })
 }

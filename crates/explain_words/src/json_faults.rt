@@ -173,11 +173,11 @@ impl Reading<'_> {
         match byte {
             None => Some(JsonFault {
                 at: self.at,
-                what: "the text ends within a JSON value",
+                what: "the text ends too early",
                 open: self.open.last().copied(),
             }),
-            Some(b'/' | b'#') => self.fault("inputs have no comments"),
-            Some(b'\'') => self.fault("names are written in double quotation marks"),
+            Some(b'/' | b'#') => self.fault("comments aren't allowed in inputs"),
+            Some(b'\'') => self.fault("names are in double quotation marks"),
             Some(_) => self.fault(what),
         }
     }
@@ -216,7 +216,7 @@ impl Reading<'_> {
 
     fn enter(&mut self, next: Next) -> Result<Option<JsonFault>, Memory> {
         if self.open.len() >= MOST_OPEN {
-            return Ok(self.fault("too many brackets are open here"));
+            return Ok(self.fault("brackets are nested too deeply here"));
         }
         self.open.push(self.at)?;
         self.at = self.at.saturating_add(1);
@@ -238,7 +238,7 @@ impl Reading<'_> {
         if !is_value(word) {
             return self.unwanted(
                 byte,
-                "a value is an integer in decimal digits, or a list of integers",
+                "expected an integer in decimal digits, or a list of integers",
             );
         }
         self.at = self.at.saturating_add(word.len());
@@ -250,16 +250,13 @@ impl Reading<'_> {
         match byte {
             Some(b'"') => self.string(Next::Colon),
             Some(b'}') => self.fault("a member is missing between the comma and this bracket"),
-            _ => self.unwanted(byte, "a name is written in double quotation marks"),
+            _ => self.unwanted(byte, "expected a name in double quotation marks"),
         }
     }
 
     fn colon(&mut self, byte: Option<u8>) -> Option<JsonFault> {
         if byte != Some(b':') {
-            return self.unwanted(
-                byte,
-                "a colon is missing here, between a name and its value",
-            );
+            return self.unwanted(byte, "expected a colon between a name and its value");
         }
         self.at = self.at.saturating_add(1);
         self.next = Next::Value;
@@ -281,14 +278,17 @@ impl Reading<'_> {
             }
             is_escaped = !is_escaped && *byte == b'\\';
         }
-        self.fault("this text has no closing quotation mark in its line")
+        self.fault("the closing quotation mark of this text is missing in its line")
     }
 
     // What follows a value: a comma, or the end of what is open.
     fn comma(&mut self, byte: Option<u8>) -> Option<JsonFault> {
         let open = self.open.last().copied();
         let Some(start) = open else {
-            return self.unwanted(byte, "the JSON value ends before this");
+            return self.unwanted(
+                byte,
+                "the inputs end before this, with their closing bracket",
+            );
         };
         let is_list = self.text.get(start).copied() == Some(b'[');
         match byte {

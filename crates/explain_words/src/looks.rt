@@ -1,6 +1,6 @@
 //! What kind of file some bytes seem to be, by their first words.
 
-use crate::calls::Kind;
+use crate::calls::FileKind;
 use crate::texts::{is_word_of, length_up_to, piece};
 use crate::words::Words;
 
@@ -41,62 +41,66 @@ fn is_source(text: &[u8]) -> bool {
 }
 
 /// What kind of file some bytes seem to be.
-pub(crate) fn looks_like(bytes: &[u8]) -> Option<Kind> {
+pub(crate) fn looks_like(bytes: &[u8]) -> Option<FileKind> {
     if piece(bytes, 0, 4) == b"GRLT".as_slice() {
-        return Some(Kind::Object);
+        return Some(FileKind::Object);
     }
     if piece(past_comments(bytes, b";"), 0, 7) == b".object".as_slice() {
-        return Some(Kind::Assembly);
+        return Some(FileKind::Assembly);
     }
     if is_inputs(bytes) {
-        return Some(Kind::Inputs);
+        return Some(FileKind::Inputs);
     }
     if is_source(bytes) {
-        return Some(Kind::Source);
+        return Some(FileKind::Source);
     }
     None
 }
 
-fn name_of(kind: Kind) -> &'static str {
+fn name_of(kind: FileKind) -> &'static str {
     match kind {
-        Kind::Object => "an object file",
-        Kind::Source => "a source",
-        Kind::Inputs => "a file of inputs",
-        Kind::Assembly => "an assembly text",
+        FileKind::Object => "an object file",
+        FileKind::Source => "a source",
+        FileKind::Inputs => "a file of inputs",
+        FileKind::Assembly => "an assembly text",
+        FileKind::Cases => "a file of cases",
     }
 }
 
 /// What to do with a file of a kind that was given in place of another. Nothing if both are the same.
-pub(crate) fn of_kinds(wanted: Kind, given: Kind) -> Option<&'static str> {
+pub(crate) fn of_kinds(wanted: FileKind, given: FileKind) -> Option<&'static str> {
     match (wanted, given) {
-        (Kind::Object, Kind::Object) => None,
-        (Kind::Source, Kind::Source) => None,
-        (Kind::Inputs, Kind::Inputs) => None,
-        (Kind::Assembly, Kind::Assembly) => None,
-        (Kind::Object, Kind::Inputs) => Some("The object comes first, then its inputs."),
-        (Kind::Source, Kind::Inputs) => Some("The source comes first, then its inputs."),
-        (Kind::Assembly, Kind::Inputs) => Some(
-            "The verbs `run` and `trace` take inputs, after an object file.",
+        (FileKind::Object, FileKind::Object) => None,
+        (FileKind::Source, FileKind::Source) => None,
+        (FileKind::Inputs, FileKind::Inputs) => None,
+        (FileKind::Assembly, FileKind::Assembly) => None,
+        (FileKind::Cases, FileKind::Inputs | FileKind::Cases) => None,
+        (FileKind::Cases, _) => Some("Name the source first, then its cases."),
+        (_, FileKind::Cases) => None,
+        (FileKind::Object, FileKind::Inputs) => Some("Name the object first, then its inputs."),
+        (FileKind::Source, FileKind::Inputs) => Some("Name the source first, then its inputs."),
+        (FileKind::Assembly, FileKind::Inputs) => Some(
+            "`run` and `trace` take inputs, after an object file.",
         ),
-        (Kind::Inputs, Kind::Object) => Some(
-            "The object comes first, then its inputs: `{\"n\":3,\"a\":[1,2,3]}`.",
+        (FileKind::Inputs, FileKind::Object) => Some(
+            "Name the object first, then its inputs, such as `{\"n\":3,\"a\":[1,2,3]}`.",
         ),
-        (Kind::Inputs, Kind::Source) => Some(
-            "The source comes first, then its inputs: `{\"n\":3,\"a\":[1,2,3]}`.",
+        (FileKind::Inputs, FileKind::Source) => Some(
+            "Name the source first, then its inputs, such as `{\"n\":3,\"a\":[1,2,3]}`.",
         ),
-        (_, Kind::Source) => Some("The verb `compile` makes an object file of it."),
-        (_, Kind::Assembly) => Some("The verb `asm` makes an object file of it."),
-        (Kind::Source, Kind::Object) => Some(
-            "The verbs `check`, `run` and `dis` take an object file.",
+        (_, FileKind::Source) => Some("`compile` makes an object file from it."),
+        (_, FileKind::Assembly) => Some("`asm` makes an object file from it."),
+        (FileKind::Source, FileKind::Object) => Some(
+            "`check`, `run` and `dis` take an object file.",
         ),
-        (Kind::Assembly, Kind::Object) => Some(
-            "The verb `dis` writes the assembly text of an object file.",
+        (FileKind::Assembly, FileKind::Object) => Some(
+            "`dis` writes the assembly text of an object file.",
         ),
     }
 }
 
 /// Says that a file is of another kind than was wanted, and whether it seems to be.
-pub(crate) fn put_other_kind(name: &str, wanted: Kind, bytes: &[u8], out: &mut Words) -> bool {
+pub(crate) fn put_other_kind(name: &str, wanted: FileKind, bytes: &[u8], out: &mut Words) -> bool {
     let Some(given) = looks_like(bytes) else {
         return false;
     };

@@ -209,6 +209,20 @@ pub(crate) fn member_at(text: &[u8], name: &[u8]) -> Option<usize> {
     found
 }
 
+/// The byte at which the value of the member begins whose name begins at a byte.
+pub(crate) fn value_at(text: &[u8], member: usize) -> Option<usize> {
+    let mut walk = Walk::START;
+    let mut is_after = false;
+    for (ahead, byte) in text.iter().skip(member).enumerate() {
+        if is_after && !is_white(*byte) {
+            return Some(member.saturating_add(ahead));
+        }
+        is_after = is_after || *byte == b':' && !walk.in_string;
+        walk = walk.after(*byte);
+    }
+    None
+}
+
 /// The byte at which the item of a number begins in the list of the member that begins at a byte.
 pub(crate) fn item_at(text: &[u8], member: usize, number: usize) -> Option<usize> {
     let mut walk = Walk::START;

@@ -1,8 +1,12 @@
 //! The nearest of some known words to one that is misspelt.
 
+use crate::texts::piece;
 use gr_base::Memory;
 use std::alloc::Global;
 use strsim::osa_distance;
+
+/// The most bytes of a word to which a known word may be near. A comparison takes time in proportion to the word.
+const MOST_BYTES: usize = 64;
 
 /// A misspelt word in lower case, and the nearest known word so far.
 #[derive(Drop)]
@@ -24,17 +28,26 @@ fn distance(alloc: Global, first: &[u8], second: &[u8]) -> Result<usize, Memory>
 }
 
 impl<'a> Nearest<'a> {
-    /// The search for a word. Up to a third of its characters may be wrong.
+    /// Begins the search for a word, of which up to a third of the characters may be wrong. Nothing is near a word that is
+    /// too long.
     pub(crate) fn to(alloc: Global, word: &[u8]) -> Result<Nearest<'a>, Memory> {
+        let limit = if word.len() > MOST_BYTES {
+            0
+        } else {
+            (word.len() / 3).saturating_add(1)
+        };
         Ok(Nearest {
-            misspelt: word.to_ascii_lowercase(alloc)?,
-            limit: (word.len() / 3).saturating_add(1),
+            misspelt: piece(word, 0, MOST_BYTES).to_ascii_lowercase(alloc)?,
+            limit,
             found: None,
         })
     }
 
     /// Compares the word with a known word.
     pub(crate) fn compare(&mut self, alloc: Global, known: &'a [u8]) -> Result<(), Memory> {
+        if self.limit == 0 {
+            return Ok(());
+        }
         let lowered = known.to_ascii_lowercase(alloc)?;
         let wrong = distance(alloc, self.misspelt.as_slice(), lowered.as_slice())?;
         if wrong < self.limit {

@@ -2,7 +2,7 @@
 
 ghost use Rattle.std.specs.Prelude.{◌≤◌, length};
 
-use crate::calls::Kind;
+use crate::calls::FileKind;
 use crate::fields::field_at;
 use crate::looks::looks_like;
 use crate::words::Words;
@@ -40,20 +40,20 @@ fn put_fault(bytes: &[u8], fault: DecodeError, out: &mut Words) {
             out.line(of_head(bytes))
         }
         DecodeError::BadVersion(version) => out.fill(
-            ":byte 4: the file has version {}, which isn't known: 1, or 2 with a window\n",
+            ":byte 4: the file has the unknown version {}; versions are 1, and 2 for an object with a window\n",
             &[u64::from(version)],
         ),
         DecodeError::Truncated(at) => {
             let at = place_in(bytes, at as usize);
             put_field(bytes, at, ":byte {}: the file ends within ", out);
-            out.line("\nThe file was cut off: copy it anew, as a binary file.")
+            out.line("\nThe file was cut off: copy it again, as a binary file.")
         }
         DecodeError::BadField(at) => put_bad_field(bytes, place_in(bytes, at as usize), out),
         DecodeError::TrailingBytes(at) => {
             let at = place_in(bytes, at as usize);
             let more = bytes.len().saturating_sub(at);
             out.fill(
-                ":byte {}: {} bytes stand behind the last instruction\n",
+                ":byte {}: {} bytes follow the last instruction\n",
                 &[at as u64, more as u64],
             )
         }
@@ -71,11 +71,10 @@ fn place_in(bytes: &[u8], at: usize) -> usize
 // What a file without the magic may be.
 fn of_head(bytes: &[u8]) -> &'static str {
     match looks_like(bytes) {
-        Some(Kind::Assembly) =>
-            "It is an assembly text: the verb `asm` makes an object file of it.",
-        Some(Kind::Source) => "It is a source: the verb `compile` makes an object file of it.",
-        Some(Kind::Inputs) => "It looks like inputs: the object comes first, then its inputs.",
-        _ => "Object files are made by the verbs `compile`, `asm` and `sample`.",
+        Some(FileKind::Assembly) => "It is an assembly text: `asm` makes an object file from it.",
+        Some(FileKind::Source) => "It is a source: `compile` makes an object file from it.",
+        Some(FileKind::Inputs) => "It looks like inputs: name the object first, then its inputs.",
+        _ => "`compile`, `asm` and `sample` make object files.",
     }
 }
 

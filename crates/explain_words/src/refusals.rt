@@ -97,19 +97,21 @@ impl Refused<'_> {
             InferError::Dead(place) => {
                 self.put_head(place as usize, out);
                 out.line(
-                    "No steps lead to this place.\nTake the dead code out, or lead a jump or branch to it.",
+                    "This instruction can't be reached.\nRemove the dead code, or jump or branch to it.",
                 )
             }
             InferError::TooMany(count) => {
                 out.name(self.name);
                 out.fill(
-                    ": the least notes are {}, and an object has room for 262144\n",
+                    ": the object needs {} notes, and at most 262144 are allowed\n",
                     &[u64::from(count)],
                 )
             }
             InferError::Refused { pc, reason } => {
                 self.put_head(pc as usize, out);
-                out.line("With the least notes, so with any, the object is refused here.");
+                out.line(
+                    "With the least notes that `infer` finds, the check rejects the object here.",
+                );
                 out.line(of_reason(reason))
             }
         }
@@ -274,7 +276,7 @@ fn standing_behind(
 fn put_detail(object: &Object, place: usize, reason: Reason, standing: &Standing, out: &mut Words) {
     if let Some(branch) = standing.branch {
         out.fill(
-            "It lies in the region of the branch on a secret at place {}.\n",
+            "It is in an arm of the branch on a secret at place {}.\n",
             &[branch as u64],
         );
     }
@@ -312,7 +314,7 @@ fn put_slot(known: &Known, slot: u8, out: &mut Words) {
     let slots = [u64::from(slot)];
     match bank_of(known, slot) {
         None => out.fill(
-            "It isn't known here which bank slot {} is bound to.\n",
+            "The check doesn't know here which bank slot {} is bound to.\n",
             &slots,
         ),
         Some(0) => out.fill("Slot {} is bound to plain memory.\n", &slots),
@@ -342,12 +344,12 @@ fn put_target(object: &Object, place: usize, instr: Instr, reason: Reason, out: 
     }
     let target = target_of(place, instr);
     out.say(if target < 0 {
-        "It leads to place -"
+        "Its target is place -"
     } else {
-        "It leads to place "
+        "Its target is place "
     });
     out.fill(
-        "{}; the code has {} instructions, from place 0 on.\n",
+        "{}; the code has {} instructions, beginning with place 0.\n",
         &[target.unsigned_abs(), object.code().len() as u64],
     );
 }
@@ -375,11 +377,11 @@ fn put_misfit(
 }
 
 fn put_misfits(place: usize, known: &Known, claim: &Known, out: &mut Words) {
-    out.fill("It comes to the note at place {}.\n", &[place as u64]);
+    out.fill("It reaches the note at place {}.\n", &[place as u64]);
     for register in 0..32u8 {
         if is_secret(known, register) && !is_secret(claim, register) {
             out.fill(
-                "r{} may hold a secret, and the note says that it holds none.\n",
+                "r{} may hold a secret, but the note says that it doesn't.\n",
                 &[u64::from(register)],
             );
         }
@@ -397,11 +399,11 @@ fn put_slot_misfit(slot: u8, bound: Option<u8>, claimed: Option<u8>, out: &mut W
     let numbers = [u64::from(claimed), u64::from(slot)];
     match bound {
         None => out.fill(
-            "The note claims bank {} of slot {}, which isn't known here.\n",
+            "The note claims bank {} for slot {}, whose bank isn't known here.\n",
             &numbers,
         ),
         Some(bound) if bound != claimed => out.fill(
-            "The note claims bank {} of slot {}, which is bound to bank {} here.\n",
+            "The note claims bank {} for slot {}, which is bound to bank {} here.\n",
             &[numbers[0], numbers[1], u64::from(bound)],
         ),
         Some(_) => {}

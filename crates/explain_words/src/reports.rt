@@ -67,9 +67,7 @@ impl Words {
     fn put_spot(&self, place: Marked, out: &mut Words) {
         out.say(",\"file\":\"");
         if let Ok(name) = std::str::from_utf8(self.name_of(place)) {
-            for c in name.chars() {
-                out.put_char(c);
-            }
+            out.put_escaped(name);
         }
         out.fill("\",\"line\":{},\"column\":{}", &[place.line, place.column]);
     }
@@ -112,6 +110,13 @@ impl Words {
             out.put_char(char::from(*byte));
         }
         out.say(if out.count() == start { "null" } else { "\"" });
+    }
+
+    /// Adds a text within a string of JSON.
+    pub(crate) fn put_escaped(&mut self, text: &str) {
+        for c in text.chars() {
+            self.put_char(c);
+        }
     }
 
     // Adds a character within a string of JSON.

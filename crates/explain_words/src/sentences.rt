@@ -6,16 +6,14 @@ use trace_patterns::Reason;
 /// How a limit is kept.
 pub(crate) fn of_limit(limit: Which) -> &'static str {
     match limit {
-        Which::Variables => "A program has at most 256 variables: put some into an array.",
+        Which::Variables => "A program has at most 256 variables: put some of them into an array.",
         Which::ArrayLength => "An array has 1 to 1,048,576 words.",
         Which::TotalWords =>
-            "All variables together have at most 4,194,304 words: make arrays shorter.",
+            "All variables together have at most 4,194,304 words: shorten the arrays.",
         Which::Height => {
-            "An expression has at most the height 16: put a part of it into a variable, in a statement before."
+            "An expression has at most 16 levels: assign a part of it to a variable, in an earlier statement."
         }
-        Which::Weight => {
-            "A program weighs at most 8,192: write a loop for what repeats. What is in a choice on a secret counts twice."
-        }
+        Which::Weight => { "Write a loop for what repeats." }
     }
 }
 
@@ -23,47 +21,49 @@ pub(crate) fn of_limit(limit: Which) -> &'static str {
 pub(crate) fn of_reason(reason: Reason) -> &'static str {
     match reason {
         Reason::SecretAddress => {
-            "The observer sees the number of a block of plain or encrypted memory, and this one may be a secret, or isn't \
-            known in an arm.\nKeep what secrets index in an oblivious bank."
+            "The observer sees which block of plain or encrypted memory is accessed. The number of this block may \
+            depend on a secret, or isn't known in an arm.\nStore what secrets index in an oblivious bank."
         }
         Reason::SecretToRam => {
-            "The observer sees the words of plain memory, and a secret, or a word at a secret place, would go there.\n\
-            Store it to encrypted or oblivious memory."
+            "This would write a secret, or write at a secret address, to plain memory, which the observer sees.\nStore \
+            it in encrypted or oblivious memory."
         }
         Reason::UnboundSlot => {
-            "What a slot holds is used where its bank isn't known.\nLoad the slot first, on every way that leads here; at a \
-            note, claim its bank."
+            "A slot is used here whose bank isn't known.\nLoad the slot first, on every path to this place; if there \
+            is a note here, claim the slot's bank in it."
         }
-        Reason::JumpOutside => "The target isn't a place of the code.\nMend the target.",
+        Reason::JumpOutside => "The target is outside the code.\nCorrect the target.",
         Reason::NoNote => {
-            "A note is missing.\nPut a `.note` directly before the instruction at the target; what follows a `jmp` or a \
-            `halt` needs one too, or is dead code to take out. The verb `infer` writes all notes."
+            "A note is missing.\nPut a `.note` directly before the instruction at the target. The instruction after a \
+            `jmp` or a `halt` needs one too, unless it is dead code, which you can remove. `infer` writes all notes."
         }
         Reason::NoteTooLow => {
-            "A note claims more than is known where it is reached.\nMark the registers that may hold secrets, and claim \
-            only banks that are known on every way. The verb `infer` writes the least notes."
+            "A note claims more than is known on a path that reaches it.\nMark the registers that may hold secrets, \
+            and claim only banks that are known on every path. `infer` writes the least notes."
         }
         Reason::SecretLoop => {
-            "In or at a branch on a secret a jump or branch leads back, or to itself.\nLet loops turn on public values \
-            alone."
+            "A branch on a secret, or a jump or branch in one of its arms, goes back or to itself, so the number of \
+            iterations would leak.\nLoop on public values only."
         }
         Reason::HaltInSecret =>
-            "A halt stands in an arm of a branch on a secret.\nHalt behind the join.",
+            "There is a halt in an arm of a branch on a secret.\nHalt after the join.",
         Reason::RamStoreInSecret => {
             "An arm of a branch on a secret writes to plain memory, which the observer sees.\nWrite plain memory in \
             public code."
         }
         Reason::UnequalArms => {
-            "The two ways through a branch on a secret don't show the same accesses at the same cycles, or the check \
-            can't tell that they do.\nGive both ways the same accesses, to blocks named alike, and fill up with `nop`s."
+            "The two paths through a branch on a secret don't make the same accesses at the same cycles, or the check \
+            can't tell that they do.\nMake the same accesses on both paths, to blocks with the same names, and pad \
+            with `nop`s."
         }
         Reason::BadRegion => {
-            "A branch on a secret has no shape of two arms that join, has a note within, or lies in 64 regions.\nEnd the \
-            first arm with a `jmp` over the second, and let both meet behind it."
+            "This branch on a secret doesn't have two arms that join, or has a note in an arm, or is nested in 64 \
+            others.\nEnd the first arm with a `jmp` over the second, so that they join after it."
         }
-        Reason::RunsOffEnd => "The code runs on behind its end.\nEnd it with `halt` or `jmp`.",
+        Reason::RunsOffEnd =>
+            "Execution can run past the last instruction.\nEnd the code with `halt` or `jmp`.",
         Reason::SecretSymbolInRam => {
-            "A secret variable lies in plain memory, bank 0, whose words the observer sees.\nMove it to another bank."
+            "A secret variable is in plain memory, bank 0, whose words the observer sees.\nMove it to another bank."
         }
     }
 }

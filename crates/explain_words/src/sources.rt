@@ -13,17 +13,18 @@ use bank_alloc::{PlaceError, banks};
 use flow_types::{TypeError, Typed, type_program};
 use gr_word::Label;
 use procs_parser::read_file;
+use resident_alloc::resident_plan;
 use src_lexer::{LexError, lex};
 use src_parser::{ParseError, TextError, read_source};
-use src_procs::{InlineError, inline};
+use src_procs::{InlineError, inline_owned};
 use src_tree::Program;
 use std::alloc::Global;
 
-/// Whether a program has to have room in blocks, as `compile` asks: of 2^w words each, w from 3 to 9.
+/// Whether a program has to have room in blocks of 2^`block_log` words, `block_log` from 3 to 9, and whether for `--fast`.
 #[derive(Clone, Copy)]
 pub(crate) enum Room {
     Unasked,
-    Blocks(u8),
+    Blocks { block_log: u8, is_fast: bool },
 }
 
 /// Explains why a source is refused. `has_procs` says whether it may have procedures.
@@ -86,7 +87,7 @@ fn typed_file(alloc: Global, text: &[u8]) -> Result<Typed, Fault>
     requires { length text.now ≤ 2 ^ 20 }
 {
     let file = read_file(alloc, text)?;
-    match inline(alloc, file) {
+    match inline_owned(alloc, file) {
         Ok(program) => typed(alloc, program),
         Err(fault) => Err(Fault::Call(fault)),
     }
@@ -121,7 +122,7 @@ fn explain_piece(alloc: Global, source: Source<'_>, fault: LexError, out: &mut W
         LexError::NumberTooBig(at) => source.put(
             at as usize,
             "the number is too big",
-            "The greatest is 9223372036854775807; the least word is written `-9223372036854775807 - 1`.",
+            "The greatest number is 9223372036854775807; the least is written `-9223372036854775807 - 1`.",
             out,
         ),
         LexError::NameTooLong(at) => source.put(
@@ -135,14 +136,19 @@ fn explain_piece(alloc: Global, source: Source<'_>, fault: LexError, out: &mut W
 }
 
 fn explain_room(alloc: Global, name: &str, typed: &Typed, room: Room, out: &mut Words) {
-    let Room::Blocks(w) = room else {
+    let Room::Blocks { block_log, is_fast } = room else {
         return;
     };
-    if w < 3 || 9 < w {
+    if block_log < 3 || 9 < block_log {
         return;
     }
-    if let Some(lack) = banks(alloc, typed.program(), w).err() {
-        put_lack(name, lack, 1u64 << w, out);
+    let lack = if is_fast {
+        resident_plan(alloc, typed.program(), block_log).err()
+    } else {
+        banks(alloc, typed.program(), block_log).err()
+    };
+    if let Some(lack) = lack {
+        put_lack(name, lack, 1u64 << block_log, out);
     }
 }
 
@@ -150,20 +156,20 @@ fn explain_room(alloc: Global, name: &str, typed: &Typed, room: Room, out: &mut 
 fn put_lack(name: &str, lack: PlaceError, words: u64, out: &mut Words) {
     let (what, numbers) = match lack {
         PlaceError::TooManyScalars(Label::Public) => (
-            ": the public scalars are more than the {} words of their block\nPut some into an array",
+            ": there are more public scalars than the {} words of a block\nPut some of them into an array",
             [words, 0],
         ),
         PlaceError::TooManyScalars(Label::Secret) => (
-            ": the secret scalars are more than the {} words of their block\nPut some into an array",
+            ": there are more secret scalars than the {} words of a block\nPut some of them into an array",
             [words, 0],
         ),
         PlaceError::BankFull(bank) => (
-            ": the arrays of bank {} need more blocks of {} words than the bank may have\nMake them shorter",
+            ": the arrays of bank {} need more blocks of {} words than a bank can have\nShorten them",
             [u64::from(bank), words],
         ),
         PlaceError::Memory => return out.starve(),
     };
     out.name(name);
     out.fill(what, &numbers);
-    out.line(", or ask for greater blocks by --block-log.");
+    out.line(", or choose larger blocks with --block-log.");
 }

@@ -2,7 +2,7 @@
 
 use crate::tokens::Tokens;
 use gr_base::Memory;
-use src_lexer::TokenKind;
+use src_lexer::Kind;
 use std::alloc::Global;
 
 /// A declaration among tokens: its name, and what it declares.
@@ -24,12 +24,12 @@ impl Tokens<'_> {
     // The declaration that begins at a token of a program.
     fn declared_at(&self, at: usize) -> Option<Declared> {
         let is_secret = match self.kind(at)? {
-            TokenKind::Secret => true,
-            TokenKind::Public => false,
+            Kind::Secret => true,
+            Kind::Public => false,
             _ => return None,
         };
         let is_array = match self.kind(at.saturating_add(3)) {
-            Some(TokenKind::LBracket) => true,
+            Some(Kind::LBracket) => true,
             _ => false,
         };
         Some(Declared {
@@ -117,7 +117,7 @@ impl Tokens<'_> {
     /// Whether the statement at a token is a call.
     pub(crate) fn is_call(&self, at: usize) -> bool {
         match self.kind(at.saturating_add(1)) {
-            Some(TokenKind::LParen) => self.is_name(at),
+            Some(Kind::LParen) => self.is_name(at),
             _ => false,
         }
     }
@@ -165,10 +165,10 @@ impl Tokens<'_> {
         let mut depth = 0usize;
         for at in open..self.all.len().max(open) {
             match self.kind(at) {
-                Some(TokenKind::LParen | TokenKind::LBracket | TokenKind::LBrace) => {
+                Some(Kind::LParen | Kind::LBracket | Kind::LBrace) => {
                     depth = depth.saturating_add(1);
                 }
-                Some(TokenKind::RParen | TokenKind::RBracket | TokenKind::RBrace) => {
+                Some(Kind::RParen | Kind::RBracket | Kind::RBrace) => {
                     depth = depth.saturating_sub(1);
                 }
                 _ => {}

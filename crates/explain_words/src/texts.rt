@@ -7,6 +7,9 @@ const SHOWN_BEFORE: usize = 60;
 
 const SHOWN_BEHIND: usize = 40;
 
+/// The most bytes of a word of a file that are quoted.
+const QUOTED: usize = 40;
+
 /// A file by its name and its text.
 #[derive(Clone, Copy)]
 pub(crate) struct Source<'a> {
@@ -108,6 +111,13 @@ fn without_return(line: &[u8]) -> &[u8] {
 }
 
 impl Words {
+    /// Adds a word of a file in quotation marks, and cuts a long one.
+    pub(crate) fn quote_word(&mut self, word: &[u8]) {
+        self.say("`");
+        self.quote(piece(word, 0, QUOTED));
+        self.say(if word.len() > QUOTED { "..`" } else { "`" });
+    }
+
     /// Adds the file's name, the line and the column of a place, both from 1.
     pub(crate) fn put_place(&mut self, name: &str, spot: Spot) {
         self.put_place_before(name, spot, "");

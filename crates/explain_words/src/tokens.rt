@@ -2,7 +2,7 @@ use crate::nearest::Nearest;
 use crate::texts::{piece, spot_at};
 use crate::words::Words;
 use gr_base::Memory;
-use src_lexer::{Token, TokenKind, lex};
+use src_lexer::{Kind, Token, lex};
 use std::alloc::Global;
 
 /// The most bytes of a source.
@@ -29,7 +29,7 @@ pub(crate) fn tokens_of(alloc: Global, text: &[u8]) -> Result<Vec<Token>, Memory
 
 impl<'a> Tokens<'a> {
     /// The kind of a token, or `None` if there is no such token.
-    pub(crate) fn kind(&self, at: usize) -> Option<&'a TokenKind> {
+    pub(crate) fn kind(&self, at: usize) -> Option<&'a Kind> {
         match self.all.get(at) {
             Some(token) => Some(&token.kind),
             None => None,
@@ -39,7 +39,7 @@ impl<'a> Tokens<'a> {
     /// The name at a token, if the token is one.
     pub(crate) fn name_at(&self, at: usize) -> Option<&'a [u8]> {
         match self.kind(at)? {
-            TokenKind::Word(name) => Some(name.bytes()),
+            Kind::Word(name) => Some(name.bytes()),
             _ => None,
         }
     }
@@ -81,7 +81,7 @@ impl<'a> Tokens<'a> {
     /// Whether a token is a name.
     pub(crate) fn is_name(&self, at: usize) -> bool {
         match self.kind(at) {
-            Some(TokenKind::Word(_)) => true,
+            Some(Kind::Word(_)) => true,
             _ => false,
         }
     }
@@ -92,7 +92,7 @@ impl<'a> Tokens<'a> {
             return true;
         };
         match self.kind(before) {
-            Some(TokenKind::Semi | TokenKind::LBrace | TokenKind::RBrace) | None => true,
+            Some(Kind::Semi | Kind::LBrace | Kind::RBrace) | None => true,
             _ => false,
         }
     }

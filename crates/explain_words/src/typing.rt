@@ -60,7 +60,7 @@ impl Tokens<'_> {
         if let Some(earlier) = self.declaration_of(at) {
             let line = spot_at(self.text, self.start(earlier.name)).line;
             out.fill(
-                "It is declared first in line {}: give one of them another name.\n",
+                "It is first declared in line {}: give one of them another name.\n",
                 &[line as u64],
             );
         }
@@ -93,7 +93,7 @@ impl Tokens<'_> {
         Ok(nearest.found())
     }
 
-    // Says that a name isn't declared, and how it is declared. `end` ends the declaration.
+    // Says that a name is not declared, and how it is declared. `end` ends the declaration.
     fn put_undeclared(&self, alloc: Global, at: usize, end: &str, out: &mut Words) {
         self.put(at, " is not declared", out);
         if is_word_of(
@@ -101,7 +101,7 @@ impl Tokens<'_> {
             self.word(at),
         ) {
             return out.line(
-                "There are only integers: write 1 for true and 0 for false or nothing.",
+                "There are only integers: write 1 for true, and 0 for false or nothing.",
             );
         }
         match self.nearest_declared(alloc, at) {
@@ -113,7 +113,7 @@ impl Tokens<'_> {
             Ok(None) => out.say("Declare"),
             Err(_) => return out.starve(),
         }
-        out.say(" it at the head of the file: `public int ");
+        out.say(" it at the beginning of the file: `public int ");
         self.tell(at, end, out);
         out.say(" or `secret int ");
         self.tell(at, end, out);
@@ -139,7 +139,7 @@ impl Sight<'_> {
         }
     }
 
-    // The first name of the statement that isn't declared, or is used with an index or without one against its declaration.
+    // The first name of the statement that is not declared, or is used with an index or without one against its declaration.
     fn misnamed(&self, alloc: Global, out: &mut Words) {
         for at in self.first..self.end.max(self.first) {
             if self.tokens.is_name(at) && self.is_misnamed(alloc, at, out) {
@@ -157,28 +157,21 @@ impl Sight<'_> {
             return true;
         };
         if declared.is_array && !has_index {
-            self.put(
-                self.depth(),
-                at,
-                " is an array, and stands without an index",
-                out,
-            );
+            self.put(self.depth(), at, " is an array, but has no index", out);
             self.put_alias(self.depth(), at, out);
-            out.line("Name one of its words, as in `a[i]`.");
+            out.line(
+                "Name one of its words, as in `a[i]`. A loop copies an array: `while (i < 9) { a[i] = b[i]; i = i + 1; \
+                }`.",
+            );
             return true;
         }
         if has_index && !declared.is_array {
-            self.put(
-                self.depth(),
-                at,
-                " is a scalar, and stands with an index",
-                out,
-            );
+            self.put(self.depth(), at, " is a scalar, but has an index", out);
             self.put_alias(self.depth(), at, out);
             out.line(if seen.at == at {
-                "Take the index away, or declare it as an array."
+                "Remove the index, or declare it as an array."
             } else {
-                "Pass an array in its place, or take the index away."
+                "Pass an array in its place, or remove the index."
             });
             return true;
         }
@@ -188,22 +181,25 @@ impl Sight<'_> {
     // An assignment of a secret, or from within secret code, to what is public.
     fn flow(&self, alloc: Global, out: &mut Words) {
         let depth = self.depth();
-        self.put(
-            depth,
-            self.first,
-            " is public, and would come to depend on a secret",
-            out,
-        );
+        self.put_place(depth, self.first, out);
+        out.say("secret value flows into public variable ");
+        out.quote_word(self.tokens.word(self.first));
+        self.put_line_of(self.first, out);
         self.put_alias(depth, self.first, out);
         let target = self.own_name(depth, self.first);
         match self.secret_name(depth, self.first.saturating_add(1), self.end) {
             Some(at) => {
                 self.tokens.tell(at, " is secret: declare ", out);
-                self.tokens.tell(target, " secret too, or keep the secret out of it.\n", out);
+                self.tokens
+                    .tell(target, " secret too, or assign a public value.\n", out);
             }
             None => {
-                self.put_choice(alloc, out);
-                out.say(", and the assignment would tell which way was taken: declare ");
+                self.put_branch(alloc, out);
+                out.say(", so the assignment would reveal which arm runs. ");
+                if self.tokens.controls_loop(self.first) {
+                    return self.tokens.put_loop_outside(self.first, out);
+                }
+                out.say("Declare ");
                 self.tokens
                     .tell(target, " secret too, or assign outside the `if`.\n", out);
             }
@@ -229,14 +225,8 @@ impl Sight<'_> {
                 out.line(", or pass a public value.");
             }
             None => {
-                out.say("and the call is in a choice on a secret");
-                self.put_line_of(self.first, out);
-                self.put_choice(alloc, out);
-                out.say(
-                    ", and the parameter would tell which way was taken: declare it secret, at ",
-                );
-                self.tokens.put_where(value.target.name, out);
-                out.line(", or call outside the `if`.");
+                out.say("but the call is in a branch on a secret");
+                self.put_own_choice(alloc, value, "parameter", out);
             }
         }
     }
@@ -248,12 +238,24 @@ impl Sight<'_> {
         self.tokens.tell(value.target.name, " of ", out);
         self.tokens.tell(
             value.frame.callee.name,
-            " is public, and the call is in a choice on a secret",
+            " is public, but the call is in a branch on a secret",
             out,
         );
+        self.put_own_choice(alloc, value, "local", out);
+    }
+
+    // Why a call in a branch on a secret can't have a public parameter or local, and how to fix it.
+    fn put_own_choice(&self, alloc: Global, value: Value, kind: &str, out: &mut Words) {
         self.put_line_of(self.first, out);
-        self.put_choice(alloc, out);
-        out.say(", and the local would tell which way was taken: declare it secret, at ");
+        self.put_branch(alloc, out);
+        out.say(", so the ");
+        out.say(kind);
+        out.say(" would reveal which arm runs. ");
+        if self.tokens.controls_loop(value.target.name) {
+            out.say("Call outside the `if`. ");
+            return self.tokens.put_loop_outside(value.target.name, out);
+        }
+        out.say("Declare it secret, at ");
         self.tokens.put_where(value.target.name, out);
         out.line(", or call outside the `if`.");
     }
@@ -263,8 +265,8 @@ impl Sight<'_> {
         out.put_line(text, spot_at(text, self.tokens.start(at)));
     }
 
-    // The secret guard in whose choice the statement is, and that it is secret.
-    fn put_choice(&self, alloc: Global, out: &mut Words) {
+    // The condition of the branch on a secret in which the statement is, and that it is secret.
+    fn put_branch(&self, alloc: Global, out: &mut Words) {
         match self.secret_choice(alloc) {
             Ok(Some((head, _))) => {
                 let Tokens { text, .. } = self.tokens;
@@ -273,13 +275,13 @@ impl Sight<'_> {
                     .tokens
                     .start(self.tokens.own_end(head).saturating_sub(1));
                 let guard = piece(text, from, up_to.saturating_sub(from));
-                out.say("The guard `");
+                out.say("The condition `");
                 out.quote(piece(guard, 0, length_up_to(guard, b"\r\n").min(GUARD_SHOWN)));
                 out.say("` at ");
                 out.put_numbers(spot_at(text, from));
                 out.say(" is secret");
             }
-            Ok(None) => out.say("It is in a choice on a secret"),
+            Ok(None) => out.say("It is in a branch on a secret"),
             Err(_) => out.starve(),
         }
     }
@@ -292,13 +294,13 @@ impl Sight<'_> {
                 self.put(
                     depth,
                     at,
-                    " is a public array, and its index is secret, which the accesses would show",
+                    " is a public array with a secret index, which its accesses would reveal",
                     out,
                 );
                 self.put_alias(depth, at, out);
                 self.tokens.tell(
                     secret,
-                    " is secret: declare the array secret too, or index it by a public word.\n",
+                    " is secret: declare the array secret too, or use a public index.\n",
                     out,
                 );
                 break;
@@ -324,31 +326,24 @@ impl Sight<'_> {
         let at = self
             .secret_name(depth, self.first, self.end)
             .unwrap_or(self.first);
-        self.put(
-            depth,
-            at,
-            " is secret, and the loop would show how often it turns",
-            out,
-        );
+        self.put_place(depth, at, out);
+        out.say("the loop condition depends on secret ");
+        out.quote_word(self.tokens.word(at));
+        out.say(", so the number of iterations would leak");
+        self.put_line_of(at, out);
         self.put_alias(depth, at, out);
         out.line(
-            "Let the loop turn a public number of times, with a choice within: `while (i < 100) { if (i < s) { .. } i = \
-            i + 1; }`.",
+            "Loop up to a public bound and test inside: `while (i < 100) { if (i < s) { .. } i = i + 1; }`.",
         );
     }
 
     // A loop in secret code.
     fn loop_in_secret(&self, alloc: Global, out: &mut Words) {
-        self.put(
-            self.depth(),
-            self.first,
-            " stands in a choice on a secret, and would show that it turns",
-            out,
-        );
-        self.put_choice(alloc, out);
-        out.line(
-            ". Put the choice into the loop: `while (i < 9) { if (s > 0) { .. } i = i + 1; }`.",
-        );
+        self.put_place(self.depth(), self.first, out);
+        out.say("this loop is in a branch on a secret, so its iterations would leak");
+        self.put_line_of(self.first, out);
+        self.put_branch(alloc, out);
+        out.line(". Put the `if` into the loop: `while (i < 9) { if (s > 0) { .. } i = i + 1; }`.");
     }
 }
 
@@ -361,7 +356,7 @@ fn explain_limit(
 ) -> Result<(), Memory> {
     let tokens = procedures.tokens;
     match limit {
-        Which::Variables => put_variable_too_many(alloc, procedures, out)?,
+        Which::Variables => return put_variable_too_many(alloc, procedures, out),
         Which::ArrayLength => tokens.put(
             tokens.declared_name(number),
             " has a length that isn't allowed",
@@ -377,15 +372,12 @@ fn explain_limit(
                 sight.put(
                     sight.depth(),
                     sight.first,
-                    " begins a statement that is too high",
+                    ": this statement has an expression that is nested too deeply",
                     out,
                 );
             }
         }
-        Which::Weight => {
-            out.name(tokens.name);
-            out.fill(": the program weighs {}\n", &[number]);
-        }
+        Which::Weight => return procedures.put_weight(alloc, number, out),
     }
     out.line(of_limit(limit));
     Ok(())
@@ -405,6 +397,7 @@ fn put_variable_too_many(
             " is one variable too many",
             out,
         );
+        out.line(of_limit(Which::Variables));
         return Ok(());
     }
     let added = MOST_VARIABLES - own;
@@ -413,8 +406,11 @@ fn put_variable_too_many(
     {
         tokens.put(
             frame.call,
-            " adds one variable too many: each call adds one for each scalar parameter and local",
+            " adds one variable too many: each call adds a variable for each scalar parameter and local",
             out,
+        );
+        out.line(
+            "A program has at most 256 variables: pass the values in an array, or call the procedure in a loop.",
         );
     }
     Ok(())

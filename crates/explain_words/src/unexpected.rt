@@ -40,9 +40,9 @@ pub(crate) fn explain_tokens(
         ParseError::TooDeep(start) => {
             Source { name, text }.put(
                 start as usize,
-                "more is nested here than is allowed",
-                "At most 32 of `(`, `[` and the sign `-`, and 32 of `{`, may be open, and a statement has at most 256 \
-                operators: put a part into a variable, in a statement before.",
+                "this is nested too deeply",
+                "At most 32 of `(`, `[` and the sign `-`, and 32 of `{`, can be open, and a statement has at most 256 \
+                operators: assign a part to a variable, in an earlier statement.",
                 out,
             );
             Ok(())
@@ -93,7 +93,7 @@ impl Parsed<'_> {
         if let Some(sentence) = said_of_procedures(tokens, at, wanted, self.has_procs) {
             out.line(sentence);
         } else if tokens.is(at, "}") && open.is_none() {
-            out.line("Every `{` before it is closed: remove it, or open the block.");
+            out.line("Each `{` before it is closed already: remove the `}`, or open its block.");
         } else {
             wanted.put(out);
             put_open(tokens, open, wanted, out);
@@ -114,7 +114,7 @@ impl Parsed<'_> {
             return Ok(());
         }
         let Tokens { name, text, .. } = tokens;
-        Source { name, text }.point(text.len(), "the text ends within a program", out);
+        Source { name, text }.point(text.len(), "the text ends too early", out);
         wanted.put(out);
         put_open(tokens, tokens.innermost(alloc, end)?, &wanted, out);
         Ok(())
@@ -252,7 +252,7 @@ fn put_unclosed(alloc: Global, tokens: Tokens<'_>, out: &mut Words) -> Result<bo
         Some(other) => {
             out.say("The `}` at ");
             tokens.put_where(other, out);
-            out.line(" is indented as the end of another block. Add a `}` before it.");
+            out.line(" is indented like the end of another block. Add a `}` before it.");
         }
         None => {
             out.say("The text ends at ");

@@ -5,6 +5,12 @@ use crate::words::Words;
 use gr_base::Memory;
 use std::alloc::Global;
 
+/// The most digits of a number.
+const MOST_DIGITS: usize = 20;
+
+/// The name of the file `-` in an explanation.
+const STREAM_NAME: &str = "standard input";
+
 /// What a verb's line says of a word that begins as an option.
 #[derive(Clone, Copy)]
 enum Taken<'a> {
@@ -110,10 +116,11 @@ pub(crate) fn explain_usage(usage: &str, words: &[&str], sorted: &Sorted<'_>, ou
         return out.line("ghostrider: no verb is given; `ghostrider help` lists the verbs");
     };
     out.say("ghostrider: ");
-    out.name(*verb);
     if usage.is_empty() {
+        out.name(*verb);
         return out.line(" is not a verb; `ghostrider help` lists the verbs");
     }
+    out.name(*verb);
     out.say(": ");
     if !put_option(usage, sorted, out) {
         put_places(usage, sorted, out);
@@ -149,7 +156,8 @@ fn put_option(usage: &str, sorted: &Sorted<'_>, out: &mut Words) -> bool {
         }
         match (taken_by(usage, name), value) {
             (Taken::Unknown, _) => {
-                put_word(name, " is not an option of this verb", out);
+                out.say("unknown option ");
+                put_word(name, "", out);
                 return true;
             }
             (Taken::Alone, Some(_)) => {
@@ -158,7 +166,7 @@ fn put_option(usage: &str, sorted: &Sorted<'_>, out: &mut Words) -> bool {
             }
             (Taken::Alone, None) => {}
             (Taken::With(kind), value) => if !is_value(kind, value.unwrap_or("")) {
-                put_wanted(name, kind, value.unwrap_or(""), out);
+                put_wanted(name, kind, value, out);
                 return true;
             },
         }
@@ -177,9 +185,10 @@ fn range_of(kind: &str) -> Option<(u64, u64)> {
     }
 }
 
-// A number of decimal digits only: a sign, which may precede a number elsewhere, isn't allowed.
+// A number of decimal digits only: a sign, which may precede a number elsewhere, isn't allowed, nor are more digits than
+// the greatest number has.
 fn number_in(text: &str) -> Option<u64> {
-    if text.starts_with("+") {
+    if text.starts_with("+") || text.len() > MOST_DIGITS {
         return None;
     }
     text.parse::<u64>().ok()
@@ -218,7 +227,7 @@ fn is_value(kind: &str, value: &str) -> bool {
 }
 
 // Says what a value should be.
-fn put_wanted(name: &str, kind: &str, value: &str, out: &mut Words) {
+fn put_wanted(name: &str, kind: &str, value: Option<&str>, out: &mut Words) {
     out.name(name);
     match range_of(kind) {
         Some((least, most)) => out.fill(" takes a number from {} to {}", &[least, most]),
@@ -226,8 +235,11 @@ fn put_wanted(name: &str, kind: &str, value: &str, out: &mut Words) {
             " takes three numbers P:O:C, where P is from 2 to 1000000, O is below C, and C is at most P",
         ),
     }
+    let Some(value) = value else {
+        return out.line(", but its value is missing");
+    };
     out.say(", not `");
-    put_word(value, "`", out);
+    put_word(if value == STREAM_NAME { "-" } else { value }, "`", out);
 }
 
 // Says which word is missing, or one too many, or no number of items.
@@ -235,24 +247,24 @@ fn put_places(usage: &str, sorted: &Sorted<'_>, out: &mut Words) {
     let mut given = sorted.placed.iter();
     for place in usage.split(" ").skip(1) {
         if place == ".." {
-            return out.line("the verb takes one to eight objects, each followed by its inputs");
+            return out.line("this verb takes one to eight objects, each followed by its inputs");
         }
         if place.starts_with("[") {
             break;
         }
         let Some(word) = given.next() else {
-            out.say("the word ");
-            return put_word(place, " is missing", out);
+            out.say("missing argument ");
+            return put_word(place, "", out);
         };
         if !is_value(place, *word) {
-            return put_wanted(place, place, *word, out);
+            return put_wanted(place, place, Some(*word), out);
         }
     }
     match given.next() {
         Some(word) => {
-            out.say("unexpected word ");
+            out.say("unexpected argument ");
             put_word(*word, "", out);
         }
-        None => out.line("the words can't be read"),
+        None => out.line("an argument has a form that isn't allowed"),
     }
 }

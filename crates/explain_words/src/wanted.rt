@@ -4,7 +4,7 @@ use crate::tokens::tokens_of;
 use crate::words::Words;
 use gr_base::Memory;
 use procs_parser::parse_procs;
-use src_lexer::{Token, TokenKind};
+use src_lexer::{Kind, Token};
 use src_parser::{ParseError, parse};
 use std::alloc::Global;
 
@@ -38,7 +38,7 @@ fn may_stand(alloc: Global, tokens: &[Token], has_procs: bool, last: u32) -> Res
 fn is_wanted(
     alloc: Global,
     tokens: &mut Vec<Token>,
-    kind: TokenKind,
+    kind: Kind,
     last: u32,
     has_procs: bool,
 ) -> Result<bool, Memory> {

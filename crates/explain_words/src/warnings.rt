@@ -8,7 +8,7 @@ use crate::tokens::Tokens;
 use crate::warned_tokens::tokens_to_warn;
 use crate::words::Words;
 use gr_base::Memory;
-use src_lexer::TokenKind;
+use src_lexer::Kind;
 use std::alloc::Global;
 use std::collections::BTreeMap;
 
@@ -88,13 +88,26 @@ impl Count {
     }
 }
 
-/// Warns of what a source that is accepted may not mean.
-pub(crate) fn warn_of_source(alloc: Global, name: &str, text: &[u8], out: &mut Words) {
-    let put = warned(alloc, name, text, out);
+/// Warns of what a source that is accepted may not mean. With `--fast` an array with a secret index may be in the
+/// scratchpad, so there is no warning of such an index.
+pub(crate) fn warn_of_source(
+    alloc: Global,
+    name: &str,
+    text: &[u8],
+    is_fast: bool,
+    out: &mut Words,
+) {
+    let put = warned(alloc, name, text, is_fast, out);
     out.starve_on(put);
 }
 
-fn warned(alloc: Global, name: &str, text: &[u8], out: &mut Words) -> Result<(), Memory> {
+fn warned(
+    alloc: Global,
+    name: &str,
+    text: &[u8],
+    is_fast: bool,
+    out: &mut Words,
+) -> Result<(), Memory> {
     let all = tokens_to_warn(alloc, name, text)?;
     let all = all.as_slice();
     let tokens = Tokens { name, text, all };
@@ -105,7 +118,9 @@ fn warned(alloc: Global, name: &str, text: &[u8], out: &mut Words) -> Result<(),
     }
     let variables = procedures.variables(alloc)?;
     procedures.warn_of_unused(alloc, &variables, &mut count, out)?;
-    tokens.warn_of_secret_index(&variables, &mut count, out);
+    if !is_fast {
+        tokens.warn_of_secret_index(&variables, &mut count, out);
+    }
     count.close(out);
     Ok(())
 }
@@ -114,7 +129,7 @@ impl<'a> Tokens<'a> {
     /// The number at a token.
     pub(crate) fn number(&self, at: usize) -> Option<u64> {
         match self.kind(at)? {
-            TokenKind::Num(value) if *value >= 0 => Some(*value as u64),
+            Kind::Num(value) if *value >= 0 => Some(*value as u64),
             _ => None,
         }
     }
@@ -133,18 +148,18 @@ impl<'a> Tokens<'a> {
     fn warn_of_number(&self, at: usize, is_own: bool, count: &mut Count, out: &mut Words) {
         let next = at.saturating_add(1);
         match self.kind(at) {
-            Some(TokenKind::Slash) if self.number(next) == Some(0) => {
+            Some(Kind::Slash) if self.number(next) == Some(0) => {
                 if self.begin_warning(at, count, out) {
                     out.line("a division by 0 gives -1");
                 }
             }
-            Some(TokenKind::Percent) if self.number(next) == Some(0) => {
+            Some(Kind::Percent) if self.number(next) == Some(0) => {
                 if self.begin_warning(at, count, out) {
                     out.line("the remainder of a division by 0 is the dividend");
                 }
             }
-            Some(TokenKind::Shl | TokenKind::Shr) => self.warn_of_shift(at, count, out),
-            Some(TokenKind::LBracket) if is_own => self.warn_of_index(at, count, out),
+            Some(Kind::Shl | Kind::Shr) => self.warn_of_shift(at, count, out),
+            Some(Kind::LBracket) if is_own => self.warn_of_index(at, count, out),
             _ => {}
         }
     }
@@ -219,7 +234,7 @@ impl<'a> Tokens<'a> {
                 out.say("this is the only secret index of ");
                 self.tell(
                     variable.declared.name,
-                    ", and makes each of its accesses an oblivious one, which takes longer\n",
+                    ", and makes each access to it oblivious, which takes longer\n",
                     out,
                 );
             }
@@ -339,7 +354,7 @@ impl<'a> Variables<'a> {
     // The indexes of an array, with the one after the name at a token. An argument counts as any number of public ones.
     fn with_index(&self, tokens: Tokens<'a>, at: usize, indexes: Indexes) -> Indexes {
         let open = at.saturating_add(1);
-        if !matches!(tokens.kind(open), Some(TokenKind::LBracket)) {
+        if !matches!(tokens.kind(open), Some(Kind::LBracket)) {
             return Indexes {
                 public: u64::MAX,
                 ..indexes

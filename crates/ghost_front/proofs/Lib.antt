@@ -1,3 +1,4 @@
 pub mod Overlaid
 pub mod CallEnds
 pub mod FirstWord
+pub mod HeldText

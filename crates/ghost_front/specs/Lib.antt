@@ -1,4 +1,5 @@
 pub mod Streams
+pub mod HeldText
 pub mod Requests
 pub mod Served
 pub mod Prelude

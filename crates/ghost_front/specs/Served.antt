@@ -33,7 +33,8 @@ pub data Delivers (file : Option (List ℕ)) (before after : SinkSeen) (verdict 
       → Delivers file before after verdict 0
   NotPut : verdict ≡ 0 → Rose before.faults after.faults → Delivers file before after verdict 4
 
--- The verb's text went to standard error, which then had `said`, and the file OUT to standard output.
+-- The verb's text went to standard error, which then had `said`, and the file OUT to standard output. If lines of JSON
+-- are made of the text, `said` has no bytes that contracts see.
 pub record StreamsFile (asked : Option Work) (before after : Around) (status : ℕ) : Type 0 where
   pub verdict : ℕ
   pub said : SinkSeen
@@ -45,8 +46,9 @@ pub record StreamsFile (asked : Option Work) (before after : Around) (status : �
 abbrev pub with_input : Option (List ℕ) → Around → Around
 with_input input before = record before { shelf = record (before.shelf) { input = input } }
 
--- How a call of a verb ends. `Refused`: the words name one file in two places that exclude each other. `NoRoom`: memory
--- ran out before the verb began. In both cases no file changed, and the status is 4 if the line couldn't be printed.
+-- How a call of a verb ends. `Refused`: standard input is to be read as two files, or two options precede the verb.
+-- `NoRoom`: memory ran out before the verb began. In both cases no file changed, and the status is 4 if the line couldn't
+-- be printed.
 -- `Printed`: the verb did what it promises, and printed to standard output. `Streamed`: it printed to standard error.
 pub data Serves (asked : Option Work) (before after : Around) (status : ℕ) : Type 0 where
   Refused : (status ≡ 2) ⊎ (status ≡ 4) → after.shelf ≡ before.shelf → Serves asked before after status

@@ -3,7 +3,7 @@
 ghost use Rattle.std.specs.Prelude.{◌≡◌};
 ghost use Rattle.ghost_front.specs.Streams.{told};
 
-use crate::help::{VERSION, put_help, put_help_on, put_help_on_help};
+use crate::help::{VERSION, put_help, put_help_on, put_help_on_other};
 use crate::printing::{DONE, USAGE, put_all, status_after};
 use crate::requests::Request;
 use crate::serving::{Ended, Stop, refused};
@@ -29,10 +29,10 @@ const MOST_MADE: usize = 4096;
 /// Printed if there is no such file.
 const NOT_KNOWN: &str = "what it was made of is not known: there is no file `made` beside it\n";
 
-/// Answers a request.
+/// Does what a request asks for. `path` is the path of the program, if it is known.
 pub(crate) fn answer<'a, F: Shelf + Drop, O: Sink>(
     alloc: Global,
-    program: Program<'_>,
+    path: Option<&str>,
     request: Request<'a>,
     shelf: &mut StreamShelf<F>,
     out: &mut O,
@@ -42,11 +42,11 @@ pub(crate) fn answer<'a, F: Shelf + Drop, O: Sink>(
     match request {
         Request::Help => done(put_help(out)),
         Request::HelpOn(verb) => done(put_help_on(verb, out)),
-        Request::HelpOnHelp => done(put_help_on_help(out)),
-        Request::HelpOnOther(word) => refused(Stop::NoVerb(word), out),
+        Request::HelpOnOther(row) => done(put_help_on_other(row, out)),
+        Request::HelpOnNothing(word) => refused(Stop::NoVerb(word), out),
         Request::TooMany(word) => refused(Stop::TooMany(word), out),
-        Request::Version => done(put_version(alloc, program.path, shelf, out)),
-        Request::Which => put_path(program.path, out),
+        Request::Version => done(put_version(alloc, path, shelf, out)),
+        Request::Which => put_path(path, out),
     }
 }
 

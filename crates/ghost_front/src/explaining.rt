@@ -1,6 +1,9 @@
 //! Explains on standard error why a call failed, and prints warnings if it didn't, from the bytes that the call read.
 
+use crate::held_text::push_string;
+use crate::misused::{explain_misused, put_no_verb};
 use crate::outside::Reasons;
+use crate::printing::{DONE, USAGE};
 use crate::requests::Manner;
 use crate::serving::{Ended, Stop};
 use crate::streams::{DASH, ReadFile, StreamShelf};
@@ -8,6 +11,7 @@ use crate::verb_table::verb_help;
 use explain_words::{Call, File, Words};
 use gr_base::Memory;
 use gr_outside::{Shelf, Sink};
+use real_outside::Cause;
 use std::alloc::Global;
 
 /// The status if a file couldn't be read.
@@ -15,6 +19,9 @@ const NOT_READ: u8 = 3;
 
 /// The status if output couldn't be written.
 const NOT_WRITTEN: u8 = 4;
+
+/// How a text begins that is about no file.
+const PROGRAM: &str = "ghostrider: ";
 
 /// What an explanation calls the file `-`.
 const STREAM_NAME: &str = "standard input";
@@ -37,9 +44,28 @@ impl Telling<'_> {
         }
     }
 
+    // What a call's files explain.
+    fn explained(
+        self,
+        alloc: Global,
+        call: &Call<'_, '_>,
+        files: &[File<'_>],
+    ) -> Result<Vec<u8>, Memory> {
+        if self.is_json {
+            call.reported(alloc, files)
+        } else {
+            call.explained(alloc, files)
+        }
+    }
+
     // Nothing is known but the status.
     fn nothing(self, alloc: Global) -> Result<Vec<u8>, Memory> {
         self.text(alloc, &Words::new(alloc))
+    }
+
+    // How a text begins that is about no file.
+    fn begins(self) -> &'static str {
+        if self.is_json { "" } else { PROGRAM }
     }
 
     // The line `ghostrider: ` with a name from outside between two texts.
@@ -51,9 +77,7 @@ impl Telling<'_> {
         after: &str,
     ) -> Result<Vec<u8>, Memory> {
         let mut out = Words::new(alloc);
-        if !self.is_json {
-            out.say("ghostrider: ");
-        }
+        out.say(self.begins());
         out.say(before);
         out.name(name);
         out.line(after);
@@ -72,25 +96,46 @@ pub(crate) fn explain<F: Shelf + Reasons + Drop, O: Sink + Reasons, E: Sink>(
     out: &O,
     errors: &mut E,
 ) {
-    let is_json = match manner {
-        Manner::Quiet => return,
-        Manner::Words => false,
-        Manner::Json => true,
+    let Some(telling) = telling_in(manner, words, ended) else {
+        return;
     };
-    let telling = Telling {
-        is_json,
-        words,
-        ended,
-    };
-    if let Ok(text) = explanation(alloc, telling, shelf, out)
-        && !text.is_empty()
+    if let Ok(text) = explanation(alloc, telling, shelf, out) {
+        put_text(text.as_slice(), errors);
+    }
+}
+
+/// Prints why the front ended a call of which no more is known.
+pub(crate) fn explain_end<E: Sink>(
+    alloc: Global,
+    manner: Manner,
+    ended: Ended<'_>,
+    errors: &mut E,
+) {
+    if let Some(telling) = telling_in(manner, &[], ended)
+        && let Some(stop) = ended.stop
+        && let Ok(text) = explain_stop(alloc, telling, stop)
     {
         put_text(text.as_slice(), errors);
     }
 }
 
-fn put_text<E: Sink>(text: &[u8], errors: &mut E) {
-    if errors.put(text).is_ok() {
+// How the end of a call is explained, if it is.
+fn telling_in<'a>(manner: Manner, words: &'a [&'a str], ended: Ended<'a>) -> Option<Telling<'a>> {
+    let is_json = match manner {
+        Manner::Quiet => return None,
+        Manner::Words => false,
+        Manner::Json => true,
+    };
+    Some(Telling {
+        is_json,
+        words,
+        ended,
+    })
+}
+
+/// Prints a text if it isn't empty. A failure is ignored.
+pub(crate) fn put_text<E: Sink>(text: &[u8], errors: &mut E) {
+    if !text.is_empty() && errors.put(text).is_ok() {
         let _ = errors.flush();
     }
 }
@@ -110,8 +155,76 @@ fn explanation<F: Shelf + Reasons + Drop, O: Sink + Reasons>(
             Some(reason) => telling.sentence(alloc, "standard output: ", reason.as_str(), ""),
             None => files_reason(alloc, telling, shelf.files()),
         },
+        USAGE => usage_text(alloc, telling),
+        DONE => warnings_text(alloc, telling, shelf.read_files()),
         _ => fault_text(alloc, telling, shelf.read_files()),
     }
+}
+
+// What is wrong with the words of a call.
+fn usage_text(alloc: Global, telling: Telling<'_>) -> Result<Vec<u8>, Memory> {
+    let mut out = Words::new(alloc);
+    explain_misused(telling.words, telling.begins(), &mut out);
+    if !out.finish(alloc)?.is_empty() {
+        return telling.text(alloc, &out);
+    }
+    let usage = usage_of(telling.words);
+    let call = Call::new(alloc, telling.ended.status, usage, telling.words)?;
+    telling.explained(alloc, &call, &[])
+}
+
+// The warnings of a call that did its work.
+fn warnings_text(
+    alloc: Global,
+    telling: Telling<'_>,
+    read: &[ReadFile],
+) -> Result<Vec<u8>, Memory> {
+    let mut text = fault_text(alloc, telling, read)?;
+    let named = names_of(alloc, telling.words)?;
+    let call = Call::new(alloc, telling.ended.status, usage_of(telling.words), &named)?;
+    if let Some(name) = replaced_source(telling.words, call.placed()) {
+        push_replaced(alloc, telling.is_json, name, &mut text)?;
+    }
+    Ok(text)
+}
+
+// The source of a call of `compile` or `eval`, if OUT, its last file, has the same name and so replaced it.
+fn replaced_source<'a>(words: &[&str], files: &[&'a str]) -> Option<&'a str> {
+    let verb = *words.first()?;
+    if verb != "compile" && verb != "eval" {
+        return None;
+    }
+    let source = *files.first()?;
+    if files.len() > 1 && source != STREAM_NAME && *files.last()? == source {
+        Some(source)
+    } else {
+        None
+    }
+}
+
+// Adds the warning that the output of a call replaced its source.
+fn push_replaced(
+    alloc: Global,
+    is_json: bool,
+    name: &str,
+    text: &mut Vec<u8>,
+) -> Result<(), Memory> {
+    let mut reason = Words::new(alloc);
+    reason.name(name);
+    reason.say(" was the source; the output has replaced it");
+    let reason = reason.finish(alloc)?;
+    if is_json {
+        text.extend_from_slice(
+            b"{\"status\":0,\"file\":null,\"line\":null,\"column\":null,\"reason\":",
+        )?;
+        push_string(reason.as_slice(), text)?;
+        text.extend_from_slice(b",\"hint\":null}\n")?;
+    } else {
+        text.extend_from_slice(b"ghostrider: warning: ")?;
+        text.extend_from_slice(reason.as_slice())?;
+        text.push(b'\n')?;
+    }
+    Ok(())
 }
 
 // Why the front ended the call itself.
@@ -119,20 +232,29 @@ fn explain_stop(alloc: Global, telling: Telling<'_>, stop: Stop<'_>) -> Result<V
     let (before, name, after) = match stop {
         Stop::NoMemory => return telling.nothing(alloc),
         Stop::ReadsTwice => ("standard input can be read as only one file", "", ""),
-        Stop::ReadsOutput(name) => (
-            "OUT is the same file as ",
-            name,
-            ", which is read; choose another OUT",
-        ),
-        Stop::NoVerb(word) => (
+        Stop::TwoManners => (
+            "only one of --quiet and --json may precede the verb",
             "",
-            word,
-            " is not a verb; `ghostrider help` lists the verbs",
+            "",
         ),
+        Stop::NotText => (
+            "an argument is not valid UTF-8; if it is the name of a file, rename the file",
+            "",
+            "",
+        ),
+        Stop::NoVerb(word) => return no_verb(alloc, telling, word),
         Stop::TooMany(word) => ("unexpected word ", word, ""),
         Stop::NoPath => ("the path of this program isn't known", "", ""),
     };
     telling.sentence(alloc, before, name, after)
+}
+
+// A word that isn't a verb.
+fn no_verb(alloc: Global, telling: Telling<'_>, word: &str) -> Result<Vec<u8>, Memory> {
+    let mut out = Words::new(alloc);
+    out.say(telling.begins());
+    put_no_verb(word, &mut out);
+    telling.text(alloc, &out)
 }
 
 // Why a file couldn't be read.
@@ -142,7 +264,7 @@ fn read_reason<F: Shelf + Reasons + Drop>(
     shelf: &StreamShelf<F>,
 ) -> Result<Vec<u8>, Memory> {
     match shelf.input_error() {
-        Some(error) => match format!(in alloc; "{error}") {
+        Some(error) => match format!(in alloc; "{}", Cause(error)) {
             Ok(reason) => telling.sentence(alloc, "standard input: ", reason.as_str(), ""),
             Err(_) => Err(Memory),
         },
@@ -179,11 +301,7 @@ fn fault_text(alloc: Global, telling: Telling<'_>, read: &[ReadFile]) -> Result<
             }
         }
     }
-    if telling.is_json {
-        call.reported(alloc, &files)
-    } else {
-        call.explained(alloc, &files)
-    }
+    telling.explained(alloc, &call, &files)
 }
 
 // The words of a call, with the name of the stream in the place of `-`.

@@ -3,7 +3,9 @@
 
 mod answering;
 mod explaining;
+mod held_text;
 mod help;
+mod misused;
 mod named_files;
 mod outside;
 mod printing;
@@ -17,6 +19,6 @@ mod verb_table;
 
 pub use answering::Program;
 pub use help::VERSION;
-pub use outside::{Identities, Reasons};
+pub use outside::Reasons;
 pub use streams::StreamShelf;
 pub use top::{front, refuse_words};

@@ -4,21 +4,21 @@ use crate::streams::DASH;
 use crate::tools::ToolName;
 use clap::ArgMatches;
 use command_words::verbs::{matches_of, verb_named};
-use explain_words::Kind;
+use explain_words::FileKind;
 use ghost_tools::{Count, Diff, Expand, Layout, Listing, Profile, Test, Tool};
 use gr_base::Memory;
 use object_tools::words;
 use std::alloc::Global;
 
 /// The names under which the verbs' rows have files to read, with the kind of each file.
-const READ: [(&str, Kind); 7] = [
-    ("OBJ", Kind::Object),
-    ("SRC", Kind::Source),
-    ("TEXT", Kind::Assembly),
-    ("INPUT", Kind::Inputs),
-    ("FIRST", Kind::Inputs),
-    ("SECOND", Kind::Inputs),
-    ("CASES", Kind::Inputs),
+const READ: [(&str, FileKind); 7] = [
+    ("OBJ", FileKind::Object),
+    ("SRC", FileKind::Source),
+    ("TEXT", FileKind::Assembly),
+    ("INPUT", FileKind::Inputs),
+    ("FIRST", FileKind::Inputs),
+    ("SECOND", FileKind::Inputs),
+    ("CASES", FileKind::Cases),
 ];
 
 /// The name under which they have the file to write.
@@ -31,7 +31,7 @@ const PAIRS: &str = "NAMES";
 #[derive(Clone, Copy)]
 pub(crate) struct InputFile<'a> {
     pub name: &'a str,
-    pub kind: Kind,
+    pub kind: FileKind,
 }
 
 /// The files of a call: those that it reads, and the one that it writes.
@@ -102,9 +102,9 @@ impl<'a> NamedFiles<'a> {
         for (place, name) in names.iter().enumerate() {
             let name = *name;
             let kind = if place % 2 == 0 {
-                Kind::Object
+                FileKind::Object
             } else {
-                Kind::Inputs
+                FileKind::Inputs
             };
             self.inputs.push(InputFile { name, kind })?;
         }
@@ -112,7 +112,7 @@ impl<'a> NamedFiles<'a> {
     }
 
     /// The kind of the file that is read from standard input.
-    pub(crate) fn streamed(&self) -> Option<Kind> {
+    pub(crate) fn streamed(&self) -> Option<FileKind> {
         for file in &self.inputs {
             if file.name == DASH {
                 return Some(file.kind);

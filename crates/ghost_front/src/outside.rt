@@ -12,24 +12,12 @@ pub trait Reasons {
     fn reason(&self, alloc: Global) -> Option<String>;
 }
 
-/// Files that may have several names. Contracts can't see which names those are, so none states the result.
-pub trait Identities {
-    /// Whether both names refer to one regular file. Links are followed. False if either can't be looked up.
-    fn are_one_file(&self, one: &str, other: &str) -> bool;
-}
-
 impl<R: Files + Drop> Reasons for RealShelf<R> {
     fn reason(&self, alloc: Global) -> Option<String> {
         match self.failure() {
             Some(failure) => format!(in alloc; "{failure}").ok(),
             None => None,
         }
-    }
-}
-
-impl<R: Files + Drop> Identities for RealShelf<R> {
-    fn are_one_file(&self, one: &str, other: &str) -> bool {
-        RealShelf::are_one_file(self, one, other)
     }
 }
 

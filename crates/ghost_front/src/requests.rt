@@ -4,7 +4,7 @@ ghost use Rattle.std.specs.Prelude.{◌≡◌, ◌∷◌, is_some};
 ghost use Rattle.command_words.specs.Prelude.{texts};
 ghost use Rattle.ghost_front.specs.Requests.{asked, asks_front, asks_help, is_about, is_help_option, is_manner};
 
-use crate::verb_table::{VerbHelp, verb_help};
+use crate::verb_table::{VerbHelp, other_help, verb_help};
 
 /// A request that the front handles itself.
 #[derive(Clone, Copy)]
@@ -13,10 +13,10 @@ pub(crate) enum Request<'a> {
     Help,
     /// To print what one verb does.
     HelpOn(VerbHelp),
-    /// To print what `help` does.
-    HelpOnHelp,
-    /// To print help on a word that isn't a verb.
-    HelpOnOther(&'a str),
+    /// To print what a word does that may stand in the place of a verb or before it.
+    HelpOnOther(VerbHelp),
+    /// To print help on a word that is neither.
+    HelpOnNothing(&'a str),
     /// To print the version, and what the program was made of.
     Version,
     /// To print the path of the program.
@@ -36,24 +36,36 @@ pub(crate) enum Manner {
     Json,
 }
 
-/// How faults and warnings are printed if the words of a call are these, and if the program `explains` at all.
+/// How faults and warnings are printed if the words of a call are these, and if the program `explains` at all. If both
+/// `--quiet` and `--json` precede the verb, that is a usage error, which is printed.
 pub(crate) fn manner_in(explains: bool, words: &[&str]) -> Manner {
     if !explains {
         return Manner::Quiet;
     }
-    match words.first() {
-        Some(word) => if *word == "--quiet" {
-            Manner::Quiet
-        } else if *word == "--json" {
-            Manner::Json
-        } else {
-            Manner::Words
-        },
-        None => Manner::Words,
+    if asks_json(words) || is_at(words, 1, "--json") && is_at(words, 0, "--quiet") {
+        return Manner::Json;
+    }
+    if is_at(words, 0, "--quiet") && !is_at(words, 1, "--quiet") {
+        return Manner::Quiet;
+    }
+    Manner::Words
+}
+
+/// Whether the words of a call ask for lines of JSON.
+pub(crate) fn asks_json(words: &[&str]) -> bool {
+    is_at(words, 0, "--json")
+}
+
+// Whether the word at a place is this one.
+fn is_at(words: &[&str], place: usize, wanted: &str) -> bool {
+    match words.get(place) {
+        Some(word) => *word == wanted,
+        None => false,
     }
 }
 
-fn is_manner(word: &str) -> bool
+/// Whether a word determines how faults and warnings are printed.
+pub(crate) fn is_manner(word: &str) -> bool
     ensures { result ≡ is_manner word.now }
 {
     word == "--quiet" || word == "--json"
@@ -137,6 +149,9 @@ fn request_about<'a>(word: &'a str, rest: &[&'a str]) -> Request<'a> {
     if word == "help" {
         return help_on(rest);
     }
+    if asks_help(rest) {
+        return help_on_word(word);
+    }
     let request = if is_help_option(word) {
         Request::Help
     } else if is_version(word) {
@@ -156,12 +171,12 @@ fn help_on<'a>(words: &[&'a str]) -> Request<'a> {
 }
 
 fn help_on_word<'a>(word: &'a str) -> Request<'a> {
-    if word == "help" || is_help_option(word) {
-        return Request::HelpOnHelp;
+    if let Some(verb) = verb_help(word) {
+        return Request::HelpOn(verb);
     }
-    match verb_help(word) {
-        Some(verb) => Request::HelpOn(verb),
-        None => Request::HelpOnOther(word),
+    match other_help(word) {
+        Some(row) => Request::HelpOnOther(row),
+        None => Request::HelpOnNothing(word),
     }
 }
 

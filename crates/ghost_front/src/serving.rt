@@ -7,13 +7,15 @@ ghost use Rattle.call_laws.specs.Prelude.{Promises, work_of};
 ghost use Rattle.ghost_front.specs.Served.{Delivers, Serves, StreamsFile, around, bytes_of};
 ghost use Rattle.ghost_front.specs.Streams.{as_shelf};
 
+use crate::explaining::put_text;
+use crate::held_text::{HeldText, as_json};
 use crate::named_files::NamedFiles;
-use crate::outside::Identities;
 use crate::printing::{DONE, NO_MEMORY, NOT_PUT, USAGE, put_all, status_after};
 use crate::reading::read_most;
-use crate::streams::{DASH, StreamShelf};
+use crate::requests::is_manner;
+use crate::streams::StreamShelf;
 use call_replies::replies;
-use explain_words::Kind;
+use explain_words::FileKind;
 use ghost_cli::ghostrider;
 use gr_base::Memory;
 use gr_outside::{Shelf, Sink};
@@ -30,8 +32,10 @@ pub(crate) enum Stop<'a> {
     NoMemory,
     /// Standard input is to be read as two files.
     ReadsTwice,
-    /// This file is read, and OUT is the same file.
-    ReadsOutput(&'a str),
+    /// Both `--quiet` and `--json` precede the verb.
+    TwoManners,
+    /// A word isn't UTF-8.
+    NotText,
     /// This word is not a verb.
     NoVerb(&'a str),
     /// This word is one too many.
@@ -48,11 +52,12 @@ pub(crate) struct Ended<'a> {
 }
 
 /// Does the work of a verb. Standard input is read at most once, and only if `-` is the name of a file to read. If OUT is
-/// `-`, the verb's text goes to `errors` and the file to `out`.
+/// `-`, the file goes to `out`, and the verb's text to `errors`, as lines of JSON if `as_lines` is true.
 #[tactic(auto, using(crate::proofs::CallEnds::refused, crate::proofs::CallEnds::no_room, crate::proofs::CallEnds::no_room_after, crate::proofs::CallEnds::printed, crate::proofs::CallEnds::streamed))]
-pub(crate) fn serve<'a, F: Shelf + Identities + Drop, I: Read, O: Sink, E: Sink>(
+pub(crate) fn serve<'a, F: Shelf + Drop, I: Read, O: Sink, E: Sink>(
     alloc: Global,
     words: &'a [&'a str],
+    as_lines: bool,
     shelf: &mut StreamShelf<F>,
     input: &mut I,
     out: &mut O,
@@ -64,14 +69,14 @@ pub(crate) fn serve<'a, F: Shelf + Identities + Drop, I: Read, O: Sink, E: Sink>
     let Ok(files) = NamedFiles::of(alloc, words) else {
         return starved(out);
     };
-    if let Some(stop) = fault_of(&files, shelf.files()) {
+    if let Some(stop) = fault_of(words, &files) {
         return refused(stop, out);
     }
     if take_input(alloc, files.streamed(), shelf, input).is_err() {
         return starved(out);
     }
     if files.streams_output() {
-        serve_to_output(alloc, words, shelf, out, errors)
+        serve_to_output(alloc, words, as_lines, shelf, out, errors)
     } else {
         serve_verb(alloc, words, shelf, out)
     }
@@ -98,6 +103,7 @@ fn serve_verb<'a, F: Shelf + Drop, O: Sink>(
 fn serve_to_output<'a, F: Shelf + Drop, O: Sink, E: Sink>(
     alloc: Global,
     words: &[&str],
+    as_lines: bool,
     shelf: &mut StreamShelf<F>,
     out: &mut O,
     errors: &mut E,
@@ -105,10 +111,45 @@ fn serve_to_output<'a, F: Shelf + Drop, O: Sink, E: Sink>(
     ensures { StreamsFile (work_of (texts words.now)) (around shelf.old (O.seen out.old) (E.seen errors.old))
         (around shelf.new (O.seen out.new) (E.seen errors.new)) result.status }
 {
+    if as_lines {
+        return serve_as_lines(alloc, words, shelf, out, errors);
+    }
     let verdict = ghostrider(alloc, words, shelf, errors);
     Ended {
         status: deliver(verdict, shelf.output(), out),
         stop: None,
+    }
+}
+
+/// The same, with the verb's text as lines of JSON. The text is left out if the file couldn't be printed, or if memory
+/// runs out for it.
+#[tactic(auto, using(crate::proofs::CallEnds::streams_file))]
+fn serve_as_lines<'a, F: Shelf + Drop, O: Sink, E: Sink>(
+    alloc: Global,
+    words: &[&str],
+    shelf: &mut StreamShelf<F>,
+    out: &mut O,
+    errors: &mut E,
+) -> Ended<'a>
+    ensures { StreamsFile (work_of (texts words.now)) (around shelf.old (O.seen out.old) (E.seen errors.old))
+        (around shelf.new (O.seen out.new) (E.seen errors.new)) result.status }
+{
+    let mut held = HeldText::new(alloc, errors);
+    let verdict = ghostrider(alloc, words, shelf, &mut held);
+    let text = held.into_text();
+    let status = deliver(verdict, shelf.output(), out);
+    if status == verdict
+        && let Some(text) = text
+    {
+        put_as_lines(alloc, status, text.as_slice(), errors);
+    }
+    Ended { status, stop: None }
+}
+
+// Prints a verb's text as lines of JSON.
+fn put_as_lines<E: Sink>(alloc: Global, status: u8, text: &[u8], errors: &mut E) {
+    if let Ok(lines) = as_json(alloc, status, text) {
+        put_text(lines.as_slice(), errors);
     }
 }
 
@@ -139,16 +180,15 @@ fn bytes_of<'a>(file: Option<&'a [u8]>) -> &'a [u8]
     }
 }
 
-/// What is wrong with the files of a call, before any is read.
-fn fault_of<'a, F: Identities>(files: &NamedFiles<'a>, shelf: &F) -> Option<Stop<'a>> {
+/// What is wrong with the words of a call that the verb itself doesn't see, before any file is read.
+fn fault_of<'a>(words: &[&str], files: &NamedFiles<'_>) -> Option<Stop<'a>> {
+    if let Some(word) = words.first()
+        && is_manner(word)
+    {
+        return Some(Stop::TwoManners);
+    }
     if files.streams_twice() {
         return Some(Stop::ReadsTwice);
-    }
-    let output = files.output?;
-    for file in &files.inputs {
-        if file.name != DASH && output != DASH && shelf.are_one_file(file.name, output) {
-            return Some(Stop::ReadsOutput(file.name));
-        }
     }
     None
 }
@@ -157,7 +197,7 @@ fn fault_of<'a, F: Identities>(files: &NamedFiles<'a>, shelf: &F) -> Option<Stop
 /// shelf keeps the reason, and `-` is missing.
 pub(crate) fn take_input<F: Shelf + Drop, I: Read>(
     alloc: Global,
-    kind: Option<Kind>,
+    kind: Option<FileKind>,
     shelf: &mut StreamShelf<F>,
     input: &mut I,
 ) -> Result<(), Memory>

@@ -4,6 +4,7 @@
 use Rattle.std.specs.Prelude.{ℕ, nat_lt, Bool, false, true, if◌then◌else◌, ℤ, pos, ◌-ℤ◌, List, [], ◌∷◌, codes, Option, Some, None, option_map, Result, Ok, Err, bytes_eq, slice_index}
 use Rattle.std.specs.Char.{is_ascii_digit}
 use Rattle.gr_word.specs.declared.operations.Op.{Op}
+use Rattle.gr_word.specs.declared.operations.Cmp.{Cmp}
 use Rattle.gr_word.specs.Names.{is_name}
 use Rattle.lt_isa.specs.declared.instructions.Instr.{Instr}
 use Rattle.lt_isa.specs.declared.instructions.Instr.TheVariants.{Nop, Halt, Li, Alu, Ldb, Stb, Idb, Ldw, Stw, Jmp, Br}
@@ -54,21 +55,27 @@ li_read (rd ∷ value ∷ []) = do
   Ok (Li rd value)
 li_read _ = Err WrongForm
 
-unfoldable pub alu_read : Op → List Word → Result Instr Fault
-alu_read op (rd ∷ ra ∷ rb ∷ []) = do
+abbrev pub operation_read : Op → (rd ra rb : Word) → Result Instr Fault
+operation_read op rd ra rb = do
   rd ← form (register_of rd)
   ra ← form (register_of ra)
   rb ← form (register_of rb)
   Ok (Alu op rd ra rb)
+
+unfoldable pub alu_read : Op → List Word → Result Instr Fault
+alu_read op (rd ∷ ra ∷ rb ∷ []) = operation_read op rd ra rb
 alu_read op _ = Err WrongForm
 
-unfoldable pub ldb_read : ℕ → List Word → Result Instr Fault
-ldb_read banks (slot ∷ bank ∷ reg ∷ []) = do
+abbrev pub load_read : ℕ → (slot bank reg : Word) → Result Instr Fault
+load_read banks slot bank reg = do
   bank ← form (bank_named bank)
   reg ← form (register_of reg)
   slot ← number_or (slot_named slot)
   there ← unless_not Number (nat_lt bank banks)
   Ok (Ldb slot bank reg)
+
+unfoldable pub ldb_read : ℕ → List Word → Result Instr Fault
+ldb_read banks (slot ∷ bank ∷ reg ∷ []) = load_read banks slot bank reg
 ldb_read banks _ = Err WrongForm
 
 unfoldable pub stb_read : List Word → Result Instr Fault
@@ -85,12 +92,15 @@ idb_read (rd ∷ slot ∷ []) = do
 idb_read _ = Err WrongForm
 
 -- a register, a slot and a register
-unfoldable pub access_read : List Word → Result (ℕ × ℕ × ℕ) Fault
-access_read (reg ∷ slot ∷ off ∷ []) = do
+abbrev pub access_at_read : (reg slot off : Word) → Result (ℕ × ℕ × ℕ) Fault
+access_at_read reg slot off = do
   reg ← form (register_of reg)
   off ← form (register_of off)
   slot ← number_or (slot_named slot)
   Ok (reg, slot, off)
+
+unfoldable pub access_read : List Word → Result (ℕ × ℕ × ℕ) Fault
+access_read (reg ∷ slot ∷ off ∷ []) = access_at_read reg slot off
 access_read _ = Err WrongForm
 
 abbrev pub ldw_read : List Word → Result Instr Fault
@@ -103,21 +113,33 @@ stw_read words = access_read words >>= (λ x. Ok (Stw x.0 x.1 x.2))
 abbrev pub arrow_read : Word → Result (Unit {0}) Fault
 arrow_read word = unless_not WrongForm (bytes_eq word (codes "->"))
 
-unfoldable pub jmp_read : ℕ → List Word → Result Coded Fault
-jmp_read place (arrow ∷ target ∷ []) = do
+-- a jump to the target that follows an arrow
+abbrev pub jump_read : ℕ → (arrow target : Word) → Result Coded Fault
+jump_read place arrow target = do
   there ← arrow_read arrow
   aim ← aim_read place target
   Ok (record { instr = Jmp aim.offset; label = aim.label })
+
+unfoldable pub jmp_read : ℕ → List Word → Result Coded Fault
+jmp_read place (arrow ∷ target ∷ []) = jump_read place arrow target
 jmp_read place _ = Err WrongForm
 
-unfoldable pub br_read : ℕ → List Word → Result Coded Fault
-br_read place (cmp ∷ ra ∷ rb ∷ arrow ∷ target ∷ []) = do
-  cmp ← form (cmp_named cmp)
-  ra ← form (register_of ra)
-  rb ← form (register_of rb)
+-- a branch to the target that follows an arrow
+abbrev pub branch_to_read : ℕ → Cmp → ℕ → ℕ → (arrow target : Word) → Result Coded Fault
+branch_to_read place cmp ra rb arrow target = do
   there ← arrow_read arrow
   aim ← aim_read place target
   Ok (record { instr = Br cmp ra rb aim.offset; label = aim.label })
+
+abbrev pub branch_read : ℕ → (cmp ra rb arrow target : Word) → Result Coded Fault
+branch_read place cmp ra rb arrow target = do
+  cmp ← form (cmp_named cmp)
+  ra ← form (register_of ra)
+  rb ← form (register_of rb)
+  branch_to_read place cmp ra rb arrow target
+
+unfoldable pub br_read : ℕ → List Word → Result Coded Fault
+br_read place (cmp ∷ ra ∷ rb ∷ arrow ∷ target ∷ []) = branch_read place cmp ra rb arrow target
 br_read place _ = Err WrongForm
 
 -- an instruction of one word

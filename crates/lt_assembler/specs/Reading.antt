@@ -3,6 +3,7 @@
 -- connects them. (This project's profile.)
 use Rattle.std.specs.Prelude.{ℕ, ◌+◌, ◌-◌, ◌*◌, ◌^◌, nat_le, nat_lt, ◌==◌, Bool, not, ◌&&◌, if◌then◌else◌, List, [], ◌∷◌, ◌++◌, length, take, codes, Option, Some, None, is_none, is_some, Result, Ok, Err, bytes_eq, slice_index}
 use Rattle.std.specs.List.{list_all, list_any}
+use Rattle.gr_word.specs.declared.variables.Label.{Label}
 use Rattle.gr_word.specs.declared.variables.Shape.{Shape}
 use Rattle.gr_word.specs.Names.{is_name}
 use Rattle.lt_isa.specs.declared.profiles.Profile.{Profile}
@@ -58,13 +59,18 @@ abbrev pub is_version : ℕ → Word → Bool
 is_version version word = is_some (number_within version version word)
 
 -- version 1 has no window
-unfoldable pub profile_read : List Word → Result Profile Fault
-profile_read (version ∷ block_log ∷ alu ∷ mul ∷ word ∷ taken ∷ []) = do
+abbrev pub versioned_read : Word → Result Profile Fault → List Word → Result Profile Fault
+versioned_read version cycles [] = do
   known ← unless_not Number (is_version 1 version)
-  cycles_read block_log alu mul word taken
-profile_read (version ∷ block_log ∷ alu ∷ mul ∷ word ∷ taken ∷ period ∷ opens ∷ closes ∷ []) = do
+  cycles
+versioned_read version cycles (period ∷ opens ∷ closes ∷ []) = do
   known ← unless_not Number (is_version 2 version)
-  window_read (cycles_read block_log alu mul word taken) period opens closes
+  window_read cycles period opens closes
+versioned_read version cycles _ = Err WrongForm
+
+unfoldable pub profile_read : List Word → Result Profile Fault
+profile_read (version ∷ block_log ∷ alu ∷ mul ∷ word ∷ taken ∷ window) =
+    versioned_read version (cycles_read block_log alu mul word taken) window
 profile_read _ = Err WrongForm
 
 unfoldable pub object_line : List Word → Draft → Result Draft Fault
@@ -74,11 +80,14 @@ object_line words d = do
   Ok (record d { profile = Some profile })
 
 -- bank number `index`
-unfoldable pub bank_read : ℕ → List Word → Result BankSpec Fault
-bank_read index (blocks ∷ latency ∷ []) = do
+abbrev pub bank_with : ℕ → (blocks latency : Word) → Result BankSpec Fault
+bank_with index blocks latency = do
   blocks ← number_or (number_within 1 (most_blocks index) blocks)
   latency ← number_or (number_within 1 most_latency latency)
   Ok (record { blocks = blocks; latency = latency })
+
+unfoldable pub bank_read : ℕ → List Word → Result BankSpec Fault
+bank_read index (blocks ∷ latency ∷ []) = bank_with index blocks latency
 bank_read index _ = Err WrongForm
 
 unfoldable pub bank_line : List Word → Draft → Result Draft Fault
@@ -89,34 +98,46 @@ bank_line words d = do
   Ok (record d { banks = d.banks ++ bank ∷ [] })
 
 -- the place of a symbol, from four words
-unfoldable pub site_read : ℕ → List BankSpec → List Symbol → Shape → List Word → Result Site Fault
-site_read w banks before shape (bank ∷ block ∷ word ∷ size ∷ []) = do
+abbrev pub site_at_read : ℕ → List BankSpec → List Symbol → Shape → (bank block word size : Word) → Result Site Fault
+site_at_read w banks before shape bank block word size = do
   bank ← number_or (number_within (last_bank before) (length banks - 1) bank)
   block ← number_or (number_within 0 (blocks_in banks bank - 1) block)
   word ← number_or (number_within (first_free_word w before bank block) (w - 1) word)
   size ← number_or (number_within 1 (most_length w banks shape bank (block * w + word)) size)
   Ok (record { bank = bank; block = block; word = word; length = size })
+
+unfoldable pub site_read : ℕ → List BankSpec → List Symbol → Shape → List Word → Result Site Fault
+site_read w banks before shape (bank ∷ block ∷ word ∷ size ∷ []) =
+    site_at_read w banks before shape bank block word size
 site_read w banks before shape _ = Err WrongForm
 
 abbrev pub four : List Word → Bool
 four words = length words == 4
 
--- the next symbol after those before, if a block has w words
-unfoldable pub symbol_read : ℕ → List BankSpec → List Symbol → List Word → Result Symbol Fault
-symbol_read w banks before (name ∷ label ∷ shape ∷ site) = do
+-- the symbol with this name at a place
+abbrev pub symbol_at : Word → Label → Shape → Site → Symbol
+symbol_at name label shape site = record {
+  name = name;
+  label = label;
+  shape = shape;
+  bank = site.bank;
+  block = site.block;
+  word = site.word;
+  length = site.length;
+}
+
+-- the next symbol after those before, from its name, its label, its shape and the words after them, if a block has w
+-- words
+abbrev pub symbol_with : ℕ → List BankSpec → List Symbol → (name label shape : Word) → List Word → Result Symbol Fault
+symbol_with w banks before name label shape site = do
   whole ← unless_not WrongForm (four site && is_name name)
   label ← form (label_named label)
   shape ← form (shape_named shape)
   site ← site_read w banks before shape site
-  Ok (record {
-    name = name;
-    label = label;
-    shape = shape;
-    bank = site.bank;
-    block = site.block;
-    word = site.word;
-    length = site.length;
-  })
+  Ok (symbol_at name label shape site)
+
+unfoldable pub symbol_read : ℕ → List BankSpec → List Symbol → List Word → Result Symbol Fault
+symbol_read w banks before (name ∷ label ∷ shape ∷ site) = symbol_with w banks before name label shape site
 symbol_read w banks before _ = Err WrongForm
 
 -- the number of words of a block
@@ -133,13 +154,18 @@ abbrev pub has_room : List Symbol → Symbol → Bool
 has_room symbols symbol =
     nat_lt (length symbols) most_symbols && nat_le (total_length symbols + symbol.length) most_symbol_words
 
+-- one more symbol, unless its name is repeated or there is no room for it
+abbrev pub add_symbol : Symbol → Draft → Result Draft Fault
+add_symbol symbol d = do
+  new ← unless_not RepeatedName (is_new d.symbols symbol.name)
+  room ← unless_not Limit (has_room d.symbols symbol)
+  Ok (record d { symbols = d.symbols ++ symbol ∷ [] })
+
 unfoldable pub symbol_line : List Word → Draft → Result Draft Fault
 symbol_line words d = do
   there ← unless_not WrongForm (takes_symbol d)
   symbol ← symbol_read (width d.profile) d.banks d.symbols words
-  new ← unless_not RepeatedName (is_new d.symbols symbol.name)
-  room ← unless_not Limit (has_room d.symbols symbol)
-  Ok (record d { symbols = d.symbols ++ symbol ∷ [] })
+  add_symbol symbol d
 
 -- a note at a place, in an object with this number of banks
 unfoldable pub note_read : ℕ → ℕ → List Word → Result Note Fault
@@ -150,13 +176,18 @@ note_read banks place (mask ∷ claims) = do
   slots ← number_or (claims_of banks claims)
   Ok (record { pc = place; secrets = secrets; slots = slots })
 
+-- one more note, if there is room for it
+abbrev pub add_note : Note → Draft → Result Draft Fault
+add_note note d = do
+  room ← unless_not Limit (nat_lt (length d.notes) most_notes)
+  Ok (record d { notes = d.notes ++ note ∷ [] })
+
 -- A note needs an instruction after it, and is the only one there.
 unfoldable pub note_line : Bool → List Word → Draft → Result Draft Fault
 note_line follows words d = do
   there ← unless_not WrongForm (takes_code d && (not (is_noted d) && follows))
   note ← note_read (length d.banks) (length d.code) words
-  room ← unless_not Limit (nat_lt (length d.notes) most_notes)
-  Ok (record d { notes = d.notes ++ note ∷ [] })
+  add_note note d
 
 -- the name before the ':' at the end of a word
 unfoldable pub label_name : Word → Option Word
@@ -177,12 +208,17 @@ abbrev pub with_code : ℕ → Coded → Draft → Draft
 with_code n coded d =
     record d { code = d.code ++ coded.instr ∷ []; uses = d.uses ++ uses_of (length d.code) n coded.label }
 
+-- the instruction of line n, if there is room for it
+abbrev pub add_code : ℕ → Coded → Draft → Result Draft Fault
+add_code n coded d = do
+  room ← unless_not Limit (nat_lt (length d.code) most_instructions)
+  Ok (with_code n coded d)
+
 unfoldable pub code_line : ℕ → List Word → Draft → Result Draft Fault
 code_line n words d = do
   there ← unless_not WrongForm (takes_code d)
   coded ← instruction_read (length d.banks) (length d.code) words
-  room ← unless_not Limit (nat_lt (length d.code) most_instructions)
-  Ok (with_code n coded d)
+  add_code n coded d
 
 -- a label's line, or an instruction
 abbrev pub label_or_code : ℕ → Option Word → Word → List Word → Draft → Result Draft Fault

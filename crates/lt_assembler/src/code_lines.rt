@@ -5,12 +5,12 @@ ghost use Rattle.lt_assembler.specs.Operands.{claim_of, claims_of};
 ghost use Rattle.lt_assembler.specs.Faults.{Becomes};
 ghost use Rattle.lt_assembler.specs.Lines.{lines};
 ghost use Rattle.lt_assembler.specs.LineParts.{first_line, behind_line};
-ghost use Rattle.lt_assembler.specs.Reading.{note_read, note_line, label_name, label_line, code_line, is_instruction_line, instruction_follows};
+ghost use Rattle.lt_assembler.specs.Reading.{note_read, add_note, note_line, label_name, label_line, add_code, code_line, is_instruction_line, instruction_follows};
 ghost use Rattle.lt_assembler.specs.Seen.{draft_of};
 
 use crate::draft::{CodePlace, Draft, Use};
 use crate::faults::Fault;
-use crate::instructions::{instruction, is_instruction};
+use crate::instructions::{Coded, instruction, is_instruction};
 use crate::labels::add_label;
 use crate::lines::{MOST_WORDS, behind_line, split_line};
 use crate::operands::{claim_of, mask_of};
@@ -107,6 +107,17 @@ fn instruction_follows(text: &[u8]) -> bool
     false
 }
 
+/// Adds a note, if there is room for it.
+fn add_note(draft: &mut Draft, note: Note) -> Result<(), Fault>
+    ensures { Becomes result (draft_of draft.new) (add_note note (draft_of draft.old)) }
+{
+    if draft.notes.len() >= MOST_NOTES {
+        return Err(Fault::Limit);
+    }
+    draft.notes.push(note)?;
+    Ok(())
+}
+
 /// Reads a note's line; `behind` is the text after it.
 #[tactic(auto, unfolding(crate::specs::Reading::note_line))]
 pub fn note_line(draft: &mut Draft, words: &[&[u8]], behind: &[u8]) -> Result<(), Fault>
@@ -117,11 +128,7 @@ pub fn note_line(draft: &mut Draft, words: &[&[u8]], behind: &[u8]) -> Result<()
         return Err(Fault::WrongForm);
     }
     let note = note_of(draft.banks.len(), next_place(draft).number, words)?;
-    if draft.notes.len() >= MOST_NOTES {
-        return Err(Fault::Limit);
-    }
-    draft.notes.push(note)?;
-    Ok(())
+    add_note(draft, note)
 }
 
 /// The name before the `:` at the end of a word.
@@ -155,6 +162,23 @@ pub fn label_line<'a>(
     Ok(())
 }
 
+/// Adds the instruction of line `line`, if there is room for it, and the use of the label that is its target.
+fn add_code<'a>(draft: &mut Draft<'a>, line: u32, coded: Coded<'a>) -> Result<(), Fault>
+    ensures { Becomes result (draft_of draft.new) (add_code line
+        (record { instr = coded.entry.instr; label = option_map (λ w. w.now) coded.entry.label })
+        (draft_of draft.old)) }
+{
+    if draft.code.len() >= MOST_INSTRUCTIONS {
+        return Err(Fault::Limit);
+    }
+    if let Some(name) = coded.label {
+        let place = next_place(draft);
+        draft.uses.push(Use { name, place, line })?;
+    }
+    draft.code.push(coded.instr)?;
+    Ok(())
+}
+
 /// Reads the line of an instruction, which has number `line`.
 #[tactic(auto, unfolding(crate::specs::Reading::code_line))]
 pub fn code_line<'a>(draft: &mut Draft<'a>, line: u32, words: &[&'a [u8]]) -> Result<(), Fault>
@@ -163,14 +187,6 @@ pub fn code_line<'a>(draft: &mut Draft<'a>, line: u32, words: &[&'a [u8]]) -> Re
     if !takes_code(draft) {
         return Err(Fault::WrongForm);
     }
-    let place = next_place(draft);
-    let coded = instruction(draft.banks.len(), place.number, words)?;
-    if draft.code.len() >= MOST_INSTRUCTIONS {
-        return Err(Fault::Limit);
-    }
-    if let Some(name) = coded.label {
-        draft.uses.push(Use { name, place, line })?;
-    }
-    draft.code.push(coded.instr)?;
-    Ok(())
+    let coded = instruction(draft.banks.len(), next_place(draft).number, words)?;
+    add_code(draft, line, coded)
 }

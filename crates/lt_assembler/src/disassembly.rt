@@ -4,8 +4,8 @@ ghost use Rattle.lt_assembler.specs.Canonical.{cycles_words, window_words, objec
 ghost use Rattle.lt_assembler.specs.Words.{label_word, shape_word, register_word, claim_word};
 
 use crate::putting::{
-    label_word, put, put_bank_word, put_claim, put_constant, put_hex, put_number, put_register,
-    put_target, put_word, shape_word,
+    label_word, put, put_bank_word, put_claim, put_constant, put_hex, put_number, put_numbers,
+    put_register, put_target, put_word, shape_word,
 };
 use gr_word::{Cmp, Memory, Op};
 use lt_isa::instruction_table::{cmp_word, op_word};
@@ -16,33 +16,40 @@ use std::alloc::Global;
 fn put_cycles(out: &mut Vec<u8>, p: &Profile) -> Result<(), Memory>
     ensures { OnOk result (out.new.items ≡ out.old.items ++ flat_map (λ word. 32 ∷ word) (cycles_words p.now)) }
 {
-    put_number(out, u32::from(p.block_log))?;
-    put_number(out, u32::from(p.alu))?;
-    put_number(out, u32::from(p.mul))?;
-    put_number(out, u32::from(p.word))?;
-    put_number(out, u32::from(p.taken))
+    let cycles = [
+        u32::from(p.block_log),
+        u32::from(p.alu),
+        u32::from(p.mul),
+        u32::from(p.word),
+        u32::from(p.taken),
+    ];
+    put_numbers(out, &cycles)
 }
 
 /// Adds the words of the window, each after a space.
 fn put_window(out: &mut Vec<u8>, p: &Profile) -> Result<(), Memory>
     ensures { OnOk result (out.new.items ≡ out.old.items ++ flat_map (λ word. 32 ∷ word) (window_words p.now)) }
 {
-    put_number(out, p.period)?;
-    put_number(out, p.opens)?;
-    put_number(out, p.closes)
+    put_numbers(out, &[p.period, p.opens, p.closes])
+}
+
+/// Adds the version and the words of the first line, each but the first after a space.
+fn put_version(out: &mut Vec<u8>, p: &Profile) -> Result<(), Memory>
+    ensures { OnOk result (out.new.items ++ 10 ∷ [] ≡ out.old.items ++ line (object_words p.now)) }
+{
+    if p.has_unit_period() {
+        put(out, b".object 1")?;
+        return put_cycles(out, p);
+    }
+    put(out, b".object 2")?;
+    put_cycles(out, p)?;
+    put_window(out, p)
 }
 
 fn put_profile(out: &mut Vec<u8>, p: &Profile) -> Result<(), Memory>
     ensures { OnOk result (out.new.items ≡ out.old.items ++ line (object_words p.now)) }
 {
-    if p.has_unit_period() {
-        put(out, b".object 1")?;
-        put_cycles(out, p)?;
-        return put(out, b"\n");
-    }
-    put(out, b".object 2")?;
-    put_cycles(out, p)?;
-    put_window(out, p)?;
+    put_version(out, p)?;
     put(out, b"\n")
 }
 
@@ -50,8 +57,7 @@ fn put_bank(out: &mut Vec<u8>, b: BankSpec) -> Result<(), Memory>
     ensures { OnOk result (out.new.items ≡ out.old.items ++ line (words_for_bank b)) }
 {
     put(out, b".bank")?;
-    put_number(out, b.blocks)?;
-    put_number(out, b.latency)?;
+    put_numbers(out, &[b.blocks, b.latency])?;
     put(out, b"\n")
 }
 
@@ -71,10 +77,10 @@ fn put_place(out: &mut Vec<u8>, s: &Symbol) -> Result<(), Memory>
     ensures { OnOk result (out.new.items ≡ out.old.items ++ 32 ∷ (decimal s.now.bank ++ 32
         ∷ (decimal s.now.block ++ 32 ∷ (decimal s.now.word ++ 32 ∷ (decimal s.now.length ++ 10 ∷ []))))) }
 {
-    put_number(out, u32::from(s.bank))?;
-    put_number(out, s.block)?;
-    put_number(out, u32::from(s.word))?;
-    put_number(out, s.length)?;
+    put_numbers(
+        out,
+        &[u32::from(s.bank), s.block, u32::from(s.word), s.length],
+    )?;
     put(out, b"\n")
 }
 
@@ -103,6 +109,25 @@ fn put_note(out: &mut Vec<u8>, n: Note) -> Result<(), Memory>
     put(out, b"\n")
 }
 
+/// Adds two registers, each after a space.
+fn put_registers(out: &mut Vec<u8>, first: u8, second: u8) -> Result<(), Memory>
+    ensures { OnOk result
+        (out.new.items ≡ out.old.items ++ 32 ∷ register_word first ++ 32 ∷ register_word second) }
+{
+    put_register(out, first)?;
+    put_register(out, second)
+}
+
+/// Adds a constant for a register without its line feed.
+fn put_li(out: &mut Vec<u8>, rd: u8, value: i64) -> Result<(), Memory>
+    ensures { OnOk result
+        (out.new.items ++ 10 ∷ [] ≡ out.old.items ++ line (instruction_words (Instr.Li rd value))) }
+{
+    put(out, b"li")?;
+    put_register(out, rd)?;
+    put_constant(out, value)
+}
+
 /// Adds an operation without its line feed.
 fn put_operation(out: &mut Vec<u8>, op: Op, rd: u8, ra: u8, rb: u8) -> Result<(), Memory>
     ensures { OnOk result
@@ -110,8 +135,7 @@ fn put_operation(out: &mut Vec<u8>, op: Op, rd: u8, ra: u8, rb: u8) -> Result<()
 {
     put(out, op_word(op))?;
     put_register(out, rd)?;
-    put_register(out, ra)?;
-    put_register(out, rb)
+    put_registers(out, ra, rb)
 }
 
 /// Adds a branch without its line feed.
@@ -121,8 +145,7 @@ fn put_branch(out: &mut Vec<u8>, cmp: Cmp, ra: u8, rb: u8, offset: i32) -> Resul
 {
     put(out, b"br")?;
     put_word(out, cmp_word(cmp))?;
-    put_register(out, ra)?;
-    put_register(out, rb)?;
+    put_registers(out, ra, rb)?;
     put_target(out, offset)
 }
 
@@ -148,6 +171,34 @@ fn put_load(out: &mut Vec<u8>, slot: u8, bank: u8, reg: u8) -> Result<(), Memory
     put_register(out, reg)
 }
 
+/// Adds a store of a slot's block without its line feed.
+fn put_stb(out: &mut Vec<u8>, slot: u8) -> Result<(), Memory>
+    ensures { OnOk result
+        (out.new.items ++ 10 ∷ [] ≡ out.old.items ++ line (instruction_words (Instr.Stb slot))) }
+{
+    put(out, b"stb")?;
+    put_number(out, u32::from(slot))
+}
+
+/// Adds the query of a slot's block without its line feed.
+fn put_idb(out: &mut Vec<u8>, rd: u8, slot: u8) -> Result<(), Memory>
+    ensures { OnOk result
+        (out.new.items ++ 10 ∷ [] ≡ out.old.items ++ line (instruction_words (Instr.Idb rd slot))) }
+{
+    put(out, b"idb")?;
+    put_register(out, rd)?;
+    put_number(out, u32::from(slot))
+}
+
+/// Adds a jump without its line feed.
+fn put_jmp(out: &mut Vec<u8>, offset: i32) -> Result<(), Memory>
+    ensures { OnOk result
+        (out.new.items ++ 10 ∷ [] ≡ out.old.items ++ line (instruction_words (Instr.Jmp offset))) }
+{
+    put(out, b"jmp")?;
+    put_target(out, offset)
+}
+
 /// Adds an instruction without its line feed.
 fn put_words(out: &mut Vec<u8>, i: &Instr) -> Result<(), Memory>
     ensures { OnOk result (out.new.items ++ 10 ∷ [] ≡ out.old.items ++ line (instruction_words i.now)) }
@@ -155,28 +206,14 @@ fn put_words(out: &mut Vec<u8>, i: &Instr) -> Result<(), Memory>
     match *i {
         Instr::Nop => put(out, b"nop"),
         Instr::Halt => put(out, b"halt"),
-        Instr::Li { rd, value } => {
-            put(out, b"li")?;
-            put_register(out, rd)?;
-            put_constant(out, value)
-        }
+        Instr::Li { rd, value } => put_li(out, rd, value),
         Instr::Alu { op, rd, ra, rb } => put_operation(out, op, rd, ra, rb),
         Instr::Ldb { slot, bank, reg } => put_load(out, slot, bank, reg),
-        Instr::Stb { slot } => {
-            put(out, b"stb")?;
-            put_number(out, u32::from(slot))
-        }
-        Instr::Idb { rd, slot } => {
-            put(out, b"idb")?;
-            put_register(out, rd)?;
-            put_number(out, u32::from(slot))
-        }
+        Instr::Stb { slot } => put_stb(out, slot),
+        Instr::Idb { rd, slot } => put_idb(out, rd, slot),
         Instr::Ldw { rd, slot, off } => put_access(out, b"ldw", rd, slot, off),
         Instr::Stw { rs, slot, off } => put_access(out, b"stw", rs, slot, off),
-        Instr::Jmp { offset } => {
-            put(out, b"jmp")?;
-            put_target(out, offset)
-        }
+        Instr::Jmp { offset } => put_jmp(out, offset),
         Instr::Br {
             cmp,
             ra,

@@ -1,12 +1,12 @@
 ghost use Rattle.std.specs.Prelude.{◌≡◌, ◌≤◌, map, IfOk};
 ghost use Rattle.lt_isa.specs.Prelude.{most_block_log};
 ghost use Rattle.lt_assembler.specs.Faults.{Becomes};
-ghost use Rattle.lt_assembler.specs.Reading.{is_version, cycles_read, window_read, profile_read, object_line, bank_read, bank_line};
+ghost use Rattle.lt_assembler.specs.Reading.{is_version, cycles_read, window_read, versioned_read, profile_read, object_line, bank_with, bank_read, bank_line};
 ghost use Rattle.lt_assembler.specs.Seen.{draft_of};
 
 use crate::draft::Draft;
 use crate::faults::Fault;
-use crate::numbers::{number_in, number_within};
+use crate::numbers::{number_within, u8_in, u32_in};
 use crate::stages::takes_bank;
 use lt_isa::limits::{
     LEAST_BLOCK_LOG, MOST_BANKS, MOST_BLOCK_LOG, MOST_CYCLES, MOST_LATENCY, MOST_PERIOD,
@@ -26,21 +26,17 @@ fn cycles_of(
     ensures read { result ≡ cycles_read block_log.now alu.now mul.now word.now taken.now }
     ensures small { IfOk result (λ p. p.block_log ≤ most_block_log) }
 {
-    let block_log = number_in(
-        u64::from(LEAST_BLOCK_LOG),
-        u64::from(MOST_BLOCK_LOG),
-        block_log,
-    )?;
-    let alu = number_in(1, u64::from(MOST_CYCLES), alu)?;
-    let mul = number_in(1, u64::from(MOST_CYCLES), mul)?;
-    let word = number_in(1, u64::from(MOST_CYCLES), word)?;
-    let taken = number_in(1, u64::from(MOST_TAKEN), taken)?;
+    let block_log = u8_in(LEAST_BLOCK_LOG, MOST_BLOCK_LOG, block_log)?;
+    let alu = u8_in(1, MOST_CYCLES, alu)?;
+    let mul = u8_in(1, MOST_CYCLES, mul)?;
+    let word = u8_in(1, MOST_CYCLES, word)?;
+    let taken = u8_in(1, MOST_TAKEN, taken)?;
     Ok(Profile {
-        block_log: block_log as u8,
-        alu: alu as u8,
-        mul: mul as u8,
-        word: word as u8,
-        taken: taken as u8,
+        block_log,
+        alu,
+        mul,
+        word,
+        taken,
         period: 1,
         opens: 0,
         closes: 1,
@@ -60,13 +56,13 @@ fn with_window(
     ensures small { IfOk result (λ p. p.block_log ≤ most_block_log) }
 {
     let profile = cycles?;
-    let period = number_in(2, u64::from(MOST_PERIOD), period)?;
-    let opens = number_in(0, period - 1, opens)?;
-    let closes = number_in(opens + 1, period, closes)?;
+    let period = u32_in(2, MOST_PERIOD, period)?;
+    let opens = u32_in(0, period - 1, opens)?;
+    let closes = u32_in(opens + 1, period, closes)?;
     Ok(Profile {
-        period: period as u32,
-        opens: opens as u32,
-        closes: closes as u32,
+        period,
+        opens,
+        closes,
         ..profile
     })
 }
@@ -78,6 +74,33 @@ fn is_version(version: u64, word: &[u8]) -> bool
     number_within(version, version, word).is_some()
 }
 
+/// The profile of these cycles, in version 1 with memory that is always open and in version 2 with a window.
+fn versioned(
+    version: &[u8],
+    cycles: Result<Profile, Fault>,
+    window: &[&[u8]],
+) -> Result<Profile, Fault>
+    requires { IfOk cycles (λ p. p.block_log ≤ most_block_log) }
+    ensures read { result ≡ versioned_read version.now cycles (map (λ w. w.now) window.now) }
+    ensures small { IfOk result (λ p. p.block_log ≤ most_block_log) }
+{
+    match window {
+        [] => {
+            if !is_version(1, version) {
+                return Err(Fault::Number);
+            }
+            cycles
+        }
+        [period, opens, closes] => {
+            if !is_version(2, version) {
+                return Err(Fault::Number);
+            }
+            with_window(cycles, period, opens, closes)
+        }
+        _ => Err(Fault::WrongForm),
+    }
+}
+
 /// The profile of the first line, from the words after the first.
 #[tactic(auto, unfolding(crate::specs::Reading::profile_read))]
 fn profile_of(words: &[&[u8]]) -> Result<Profile, Fault>
@@ -85,28 +108,9 @@ fn profile_of(words: &[&[u8]]) -> Result<Profile, Fault>
     ensures small { IfOk result (λ p. p.block_log ≤ most_block_log) }
 {
     match words {
-        [version, block_log, alu, mul, word, taken] => {
-            if !is_version(1, version) {
-                return Err(Fault::Number);
-            }
-            cycles_of(block_log, alu, mul, word, taken)
-        }
-        [
-            version,
-            block_log,
-            alu,
-            mul,
-            word,
-            taken,
-            period,
-            opens,
-            closes,
-        ] => {
-            if !is_version(2, version) {
-                return Err(Fault::Number);
-            }
+        [version, block_log, alu, mul, word, taken, window @ ..] => {
             let cycles = cycles_of(block_log, alu, mul, word, taken);
-            with_window(cycles, period, opens, closes)
+            versioned(version, cycles, window)
         }
         _ => Err(Fault::WrongForm),
     }
@@ -125,20 +129,22 @@ pub fn object_line(draft: &mut Draft, words: &[&[u8]]) -> Result<(), Fault>
     Ok(())
 }
 
+/// Bank number `index`, with the number of its blocks and its latency.
+fn bank_with(index: usize, blocks: &[u8], latency: &[u8]) -> Result<BankSpec, Fault>
+    ensures { result ≡ bank_with index blocks.now latency.now }
+{
+    let blocks = u32_in(1, most_blocks(index), blocks)?;
+    let latency = u32_in(1, MOST_LATENCY, latency)?;
+    Ok(BankSpec { blocks, latency })
+}
+
 /// Bank number `index`, from the words after the first.
 #[tactic(auto, unfolding(crate::specs::Reading::bank_read))]
 fn bank_of(index: usize, words: &[&[u8]]) -> Result<BankSpec, Fault>
     ensures { result ≡ bank_read index (map (λ w. w.now) words.now) }
 {
     match words {
-        [blocks, latency] => {
-            let blocks = number_in(1, u64::from(most_blocks(index)), blocks)?;
-            let latency = number_in(1, u64::from(MOST_LATENCY), latency)?;
-            Ok(BankSpec {
-                blocks: blocks as u32,
-                latency: latency as u32,
-            })
-        }
+        [blocks, latency] => bank_with(index, blocks, latency),
         _ => Err(Fault::WrongForm),
     }
 }

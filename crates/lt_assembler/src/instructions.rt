@@ -2,7 +2,7 @@ ghost use Rattle.std.specs.Prelude.{◌≡◌, ◌≤◌, map, option_map, IfOk}
 ghost use Rattle.lt_isa.specs.Prelude.{most_instructions};
 ghost use Rattle.lt_assembler.specs.Faults.{Reads, number_or};
 ghost use Rattle.lt_assembler.specs.Numbers.{number_within};
-ghost use Rattle.lt_assembler.specs.Instructions.{li_read, alu_read, ldb_read, stb_read, idb_read, access_read, ldw_read, stw_read, bare_read, arrow_read, aim_read, offset_to, jmp_read, br_read, untargeted_read, operands_read, instruction_read, is_instruction};
+ghost use Rattle.lt_assembler.specs.Instructions.{li_read, operation_read, alu_read, load_read, ldb_read, stb_read, idb_read, access_at_read, access_read, ldw_read, stw_read, bare_read, arrow_read, aim_read, offset_to, jump_read, jmp_read, branch_to_read, branch_read, br_read, untargeted_read, operands_read, instruction_read, is_instruction};
 
 use crate::faults::Fault;
 use crate::mnemonics::{Mnemonic, cmp_named, mnemonic_named, same};
@@ -10,7 +10,7 @@ use crate::numbers::{
     backward_of, begins_with, begins_with_digit, but_first, constant_of, forward_of, number_in,
 };
 use crate::operands::{bank_named, register_of, slot_of};
-use gr_word::{Op, name_fits};
+use gr_word::{Cmp, Op, name_fits};
 use lt_isa::Instr;
 
 /// The greatest place that a target may have.
@@ -46,20 +46,38 @@ fn li(words: &[&[u8]]) -> Result<Instr, Fault>
     }
 }
 
+/// An operation on the registers that three words name.
+fn operation(op: Op, rd: &[u8], ra: &[u8], rb: &[u8]) -> Result<Instr, Fault>
+    ensures { result ≡ operation_read op rd.now ra.now rb.now }
+{
+    let rd = register_of(rd)?;
+    let ra = register_of(ra)?;
+    let rb = register_of(rb)?;
+    Ok(Instr::Alu { op, rd, ra, rb })
+}
+
 /// The three registers of an operation.
 #[tactic(auto, unfolding(crate::specs::Instructions::alu_read))]
 fn alu(op: Op, words: &[&[u8]]) -> Result<Instr, Fault>
     ensures { result ≡ alu_read op (map (λ w. w.now) words.now) }
 {
     match words {
-        [rd, ra, rb] => {
-            let rd = register_of(rd)?;
-            let ra = register_of(ra)?;
-            let rb = register_of(rb)?;
-            Ok(Instr::Alu { op, rd, ra, rb })
-        }
+        [rd, ra, rb] => operation(op, rd, ra, rb),
         _ => Err(Fault::WrongForm),
     }
+}
+
+/// A load of a block into the slot that the first word names.
+fn load(banks: usize, slot: &[u8], bank: &[u8], reg: &[u8]) -> Result<Instr, Fault>
+    ensures { result ≡ load_read banks slot.now bank.now reg.now }
+{
+    let bank = bank_named(bank)?;
+    let reg = register_of(reg)?;
+    let slot = slot_of(slot)?;
+    if bank as usize >= banks {
+        return Err(Fault::Number);
+    }
+    Ok(Instr::Ldb { slot, bank, reg })
 }
 
 /// A load of a block: a slot, one of `banks` banks, and a register.
@@ -68,15 +86,7 @@ fn ldb(banks: usize, words: &[&[u8]]) -> Result<Instr, Fault>
     ensures { result ≡ ldb_read banks (map (λ w. w.now) words.now) }
 {
     match words {
-        [slot, bank, reg] => {
-            let bank = bank_named(bank)?;
-            let reg = register_of(reg)?;
-            let slot = slot_of(slot)?;
-            if bank as usize >= banks {
-                return Err(Fault::Number);
-            }
-            Ok(Instr::Ldb { slot, bank, reg })
-        }
+        [slot, bank, reg] => load(banks, slot, bank, reg),
         _ => Err(Fault::WrongForm),
     }
 }
@@ -108,18 +118,23 @@ fn idb(words: &[&[u8]]) -> Result<Instr, Fault>
     }
 }
 
+/// The registers and the slot that three words name.
+fn access_at(reg: &[u8], slot: &[u8], off: &[u8]) -> Result<(u8, u8, u8), Fault>
+    ensures { result ≡ access_at_read reg.now slot.now off.now }
+{
+    let reg = register_of(reg)?;
+    let off = register_of(off)?;
+    let slot = slot_of(slot)?;
+    Ok((reg, slot, off))
+}
+
 /// A register, a slot and a register.
 #[tactic(auto, unfolding(crate::specs::Instructions::access_read))]
 fn access(words: &[&[u8]]) -> Result<(u8, u8, u8), Fault>
     ensures { result ≡ access_read (map (λ w. w.now) words.now) }
 {
     match words {
-        [reg, slot, off] => {
-            let reg = register_of(reg)?;
-            let off = register_of(off)?;
-            let slot = slot_of(slot)?;
-            Ok((reg, slot, off))
-        }
+        [reg, slot, off] => access_at(reg, slot, off),
         _ => Err(Fault::WrongForm),
     }
 }
@@ -206,6 +221,20 @@ fn target(place: u32, word: &[u8]) -> Result<Aim<'_>, Fault>
     Err(Fault::WrongForm)
 }
 
+/// A jump to the target that follows an arrow.
+fn jump<'a>(place: u32, sign: &[u8], word: &'a [u8]) -> Result<Coded<'a>, Fault>
+    requires { place ≤ most_instructions }
+    ensures { Reads (λ a. record { instr = a.instr; label = option_map (λ w. w.now) a.label }) result
+        (jump_read place sign.now word.now) }
+{
+    arrow(sign)?;
+    let Aim { offset, label } = target(place, word)?;
+    Ok(Coded {
+        instr: Instr::Jmp { offset },
+        label,
+    })
+}
+
 #[tactic(auto, unfolding(crate::specs::Instructions::jmp_read))]
 fn jmp<'a>(place: u32, words: &[&'a [u8]]) -> Result<Coded<'a>, Fault>
     requires { place ≤ most_instructions }
@@ -213,16 +242,54 @@ fn jmp<'a>(place: u32, words: &[&'a [u8]]) -> Result<Coded<'a>, Fault>
         (jmp_read place (map (λ w. w.now) words.now)) }
 {
     match words {
-        [sign, word] => {
-            arrow(sign)?;
-            let Aim { offset, label } = target(place, word)?;
-            Ok(Coded {
-                instr: Instr::Jmp { offset },
-                label,
-            })
-        }
+        [sign, word] => jump(place, sign, word),
         _ => Err(Fault::WrongForm),
     }
+}
+
+/// A branch to the target that follows an arrow.
+fn branch_to<'a>(
+    place: u32,
+    cmp: Cmp,
+    ra: u8,
+    rb: u8,
+    sign: &[u8],
+    word: &'a [u8],
+) -> Result<Coded<'a>, Fault>
+    requires { place ≤ most_instructions }
+    ensures { Reads (λ a. record { instr = a.instr; label = option_map (λ w. w.now) a.label }) result
+        (branch_to_read place cmp ra rb sign.now word.now) }
+{
+    arrow(sign)?;
+    let Aim { offset, label } = target(place, word)?;
+    Ok(Coded {
+        instr: Instr::Br {
+            cmp,
+            ra,
+            rb,
+            offset,
+        },
+        label,
+    })
+}
+
+/// A branch that compares the registers that two words name.
+fn branch<'a>(
+    place: u32,
+    cmp: &[u8],
+    ra: &[u8],
+    rb: &[u8],
+    sign: &[u8],
+    word: &'a [u8],
+) -> Result<Coded<'a>, Fault>
+    requires { place ≤ most_instructions }
+    ensures { Reads (λ a. record { instr = a.instr; label = option_map (λ w. w.now) a.label }) result
+        (branch_read place cmp.now ra.now rb.now sign.now word.now) }
+{
+    let cmp = cmp_named(cmp).ok_or(Fault::WrongForm)?;
+    let ra = register_of(ra)?;
+    let rb = register_of(rb)?;
+    branch_to(place, cmp, ra, rb, sign, word)
 }
 
 #[tactic(auto, unfolding(crate::specs::Instructions::br_read))]
@@ -232,22 +299,7 @@ fn br<'a>(place: u32, words: &[&'a [u8]]) -> Result<Coded<'a>, Fault>
         (br_read place (map (λ w. w.now) words.now)) }
 {
     match words {
-        [cmp, ra, rb, sign, word] => {
-            let cmp = cmp_named(cmp).ok_or(Fault::WrongForm)?;
-            let ra = register_of(ra)?;
-            let rb = register_of(rb)?;
-            arrow(sign)?;
-            let Aim { offset, label } = target(place, word)?;
-            Ok(Coded {
-                instr: Instr::Br {
-                    cmp,
-                    ra,
-                    rb,
-                    offset,
-                },
-                label,
-            })
-        }
+        [cmp, ra, rb, sign, word] => branch(place, cmp, ra, rb, sign, word),
         _ => Err(Fault::WrongForm),
     }
 }

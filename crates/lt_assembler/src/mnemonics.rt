@@ -129,33 +129,63 @@ fn mnemonic_among_all(word: &[u8]) -> Option<Mnemonic>
     plain_mnemonic(word).or(op_named(word).map(Mnemonic::Alu))
 }
 
-/// The instruction with this first word. Only a word that begins no instruction is compared with each.
+/// The operation on bits with this word. Only a word that begins no instruction is compared with each.
 #[tactic(auto, unfolding(crate::specs::Operands::mnemonic_named, crate::specs::Operands::op_named))]
+fn bit_operation_named(word: &[u8]) -> Option<Mnemonic>
+    ensures { result ≡ mnemonic_named word.now }
+{
+    match word {
+        [b'o', b'r'] => Some(Mnemonic::Alu(Op::Or)),
+        [b'a', b'n', b'd'] => Some(Mnemonic::Alu(Op::And)),
+        [b'x', b'o', b'r'] => Some(Mnemonic::Alu(Op::Xor)),
+        [b's', b'h', b'l'] => Some(Mnemonic::Alu(Op::Shl)),
+        [b's', b'h', b'r'] => Some(Mnemonic::Alu(Op::Shr)),
+        _ => mnemonic_among_all(word),
+    }
+}
+
+/// The operation with this word.
+#[tactic(auto, unfolding(crate::specs::Operands::mnemonic_named, crate::specs::Operands::op_named))]
+fn operation_named(word: &[u8]) -> Option<Mnemonic>
+    ensures { result ≡ mnemonic_named word.now }
+{
+    match word {
+        [b'a', b'd', b'd'] => Some(Mnemonic::Alu(Op::Add)),
+        [b's', b'u', b'b'] => Some(Mnemonic::Alu(Op::Sub)),
+        [b'm', b'u', b'l'] => Some(Mnemonic::Alu(Op::Mul)),
+        [b'd', b'i', b'v'] => Some(Mnemonic::Alu(Op::Div)),
+        [b'r', b'e', b'm'] => Some(Mnemonic::Alu(Op::Rem)),
+        [b'r', b'e', b'm', b'u'] => Some(Mnemonic::Alu(Op::Remu)),
+        _ => bit_operation_named(word),
+    }
+}
+
+/// The instruction with this first word, of those that use the scratchpad or are operations.
+#[tactic(auto, unfolding(crate::specs::Operands::mnemonic_named))]
+fn scratchpad_named(word: &[u8]) -> Option<Mnemonic>
+    ensures { result ≡ mnemonic_named word.now }
+{
+    match word {
+        [b'l', b'd', b'b'] => Some(Mnemonic::Ldb),
+        [b'l', b'd', b'w'] => Some(Mnemonic::Ldw),
+        [b's', b't', b'b'] => Some(Mnemonic::Stb),
+        [b's', b't', b'w'] => Some(Mnemonic::Stw),
+        [b'i', b'd', b'b'] => Some(Mnemonic::Idb),
+        _ => operation_named(word),
+    }
+}
+
+/// The instruction with this first word.
+#[tactic(auto, unfolding(crate::specs::Operands::mnemonic_named))]
 pub fn mnemonic_named(word: &[u8]) -> Option<Mnemonic>
     ensures { result ≡ mnemonic_named word.now }
 {
     match word {
         [b'l', b'i'] => Some(Mnemonic::Li),
         [b'b', b'r'] => Some(Mnemonic::Br),
-        [b'o', b'r'] => Some(Mnemonic::Alu(Op::Or)),
         [b'n', b'o', b'p'] => Some(Mnemonic::Nop),
-        [b'l', b'd', b'b'] => Some(Mnemonic::Ldb),
-        [b'l', b'd', b'w'] => Some(Mnemonic::Ldw),
-        [b's', b't', b'b'] => Some(Mnemonic::Stb),
-        [b's', b't', b'w'] => Some(Mnemonic::Stw),
-        [b'i', b'd', b'b'] => Some(Mnemonic::Idb),
         [b'j', b'm', b'p'] => Some(Mnemonic::Jmp),
-        [b'a', b'd', b'd'] => Some(Mnemonic::Alu(Op::Add)),
-        [b's', b'u', b'b'] => Some(Mnemonic::Alu(Op::Sub)),
-        [b'm', b'u', b'l'] => Some(Mnemonic::Alu(Op::Mul)),
-        [b'd', b'i', b'v'] => Some(Mnemonic::Alu(Op::Div)),
-        [b'r', b'e', b'm'] => Some(Mnemonic::Alu(Op::Rem)),
-        [b'a', b'n', b'd'] => Some(Mnemonic::Alu(Op::And)),
-        [b'x', b'o', b'r'] => Some(Mnemonic::Alu(Op::Xor)),
-        [b's', b'h', b'l'] => Some(Mnemonic::Alu(Op::Shl)),
-        [b's', b'h', b'r'] => Some(Mnemonic::Alu(Op::Shr)),
         [b'h', b'a', b'l', b't'] => Some(Mnemonic::Halt),
-        [b'r', b'e', b'm', b'u'] => Some(Mnemonic::Alu(Op::Remu)),
-        _ => mnemonic_among_all(word),
+        _ => scratchpad_named(word),
     }
 }

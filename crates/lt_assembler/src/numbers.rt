@@ -74,6 +74,24 @@ pub fn number_in(low: u64, high: u64, word: &[u8]) -> Result<u64, Fault>
     number_within(low, high, word).ok_or(Fault::Number)
 }
 
+/// The number of 8 bits that a word writes, from `low` to `high`, or the error of its line.
+pub fn u8_in(low: u8, high: u8, word: &[u8]) -> Result<u8, Fault>
+    ensures value { result ≡ number_or (number_within low high word.now) }
+    ensures range { IfOk result (λ n. Within low high n) }
+{
+    let number = number_in(u64::from(low), u64::from(high), word)?;
+    Ok(number as u8)
+}
+
+/// The number of 32 bits that a word writes, from `low` to `high`, or the error of its line.
+pub fn u32_in(low: u32, high: u32, word: &[u8]) -> Result<u32, Fault>
+    ensures value { result ≡ number_or (number_within low high word.now) }
+    ensures range { IfOk result (λ n. Within low high n) }
+{
+    let number = number_in(u64::from(low), u64::from(high), word)?;
+    Ok(number as u32)
+}
+
 /// The constant that a word writes: a number of 64 bits, which may follow a `-`.
 #[tactic(auto, unfolding(crate::specs::Numbers::constant_of))]
 pub fn constant_of(word: &[u8]) -> Result<i64, Fault>

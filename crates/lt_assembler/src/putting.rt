@@ -1,4 +1,4 @@
-ghost use Rattle.std.specs.Prelude.{◌≡◌, ◌<◌, ◌∷◌, ◌++◌, OnOk, decimal, codes};
+ghost use Rattle.std.specs.Prelude.{◌≡◌, ◌<◌, ◌∷◌, ◌++◌, flat_map, OnOk, decimal, codes};
 ghost use Rattle.std.specs.Fmt.{signed_decimal};
 ghost use Rattle.lt_isa.specs.Prelude.{op_word, cmp_word};
 ghost use Rattle.lt_assembler.specs.Words.{label_word, shape_word, register_word, bank_word, claim_word, hex_digit, hex_word, offset_word};
@@ -50,6 +50,16 @@ pub fn put_number(out: &mut Vec<u8>, number: u32) -> Result<(), Memory>
 {
     let mut buffer = Buffer::new();
     put_word(out, buffer.format(number).as_bytes())
+}
+
+/// Adds numbers, each after a space.
+pub fn put_numbers(out: &mut Vec<u8>, numbers: &[u32]) -> Result<(), Memory>
+    ensures { OnOk result (out.new.items ≡ out.old.items ++ flat_map (λ number. 32 ∷ decimal number) numbers.now) }
+{
+    for number in numbers {
+        put_number(out, *number)?;
+    }
+    Ok(())
 }
 
 /// Adds a space and a constant.

@@ -5,7 +5,7 @@ ghost use Rattle.gr_word.specs.Prelude.{AreVariables, FitsWants};
 
 use crate::case_problems::{Problem, saying, saying_of};
 use gr_word::{Inputs, Want};
-use run_data::{INPUT_BYTES, InputError, NameText, read_inputs};
+use run_data::{INPUT_BYTES, InputError, Name2, read_inputs};
 use serde_json::{Map, Value};
 use std::alloc::Global;
 
@@ -114,7 +114,7 @@ fn not_given(alloc: Global, fault: InputError) -> Problem {
     }
 }
 
-fn wrong(alloc: Global, name: &NameText, what: &str) -> Problem {
+fn wrong(alloc: Global, name: &Name2, what: &str) -> Problem {
     match format!(in alloc; ": {what}") {
         Ok(after) => saying_of(alloc, "in: ", name.text(), after.as_str()),
         Err(_) => Problem::NoMemory,

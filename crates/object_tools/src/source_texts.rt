@@ -5,7 +5,7 @@ ghost use Rattle.std.specs.Prelude.{◌≤◌, IfOk, length};
 use explain_words::{WithoutCalls, without_calls};
 use gr_base::Memory;
 use gr_word::{Label, Name};
-use src_lexer::{LexError, Token, TokenKind, lex};
+use src_lexer::{Kind, LexError, Token, lex};
 use src_tree::{Decl, Program};
 use std::alloc::Global;
 use std::collections::BTreeSet;
@@ -120,7 +120,7 @@ impl SourceText {
 
     fn is_name(&self, at: usize) -> bool {
         match self.tokens.get(at) {
-            Some(token) => matches!(token.kind, TokenKind::Word(_)),
+            Some(token) => matches!(token.kind, Kind::Word(_)),
             None => false,
         }
     }

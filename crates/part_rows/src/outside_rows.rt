@@ -62,7 +62,7 @@ impl Write for Stuck {
 #[test]
 fn a_stuck_output_is_told_at_a_later_put_or_at_the_end(rt: HostRuntime) -> Result<(), Fail> {
     let long = vec![in rt.alloc(); 7; 65_537]?;
-    let mut sink = RealSink::new(rt.alloc(), Stuck)?;
+    let mut sink = RealSink::new(rt.alloc(), Stuck);
     assert_eq!(rt;
         told(&mut sink, &long),
         (Ok(()), 7, Err(SinkFailed), Err(SinkFailed))
@@ -82,7 +82,7 @@ fn told(sink: &mut RealSink<Stuck>, long: &[u8]) -> (Put, usize, Put, Put) {
 
 #[test]
 fn what_is_put_reaches_the_output(rt: HostRuntime) -> Result<(), Fail> {
-    let mut sink = RealSink::new(rt.alloc(), io::writer(&rt))?;
+    let mut sink = RealSink::new(rt.alloc(), io::writer(&rt));
     sink.put(b"a line\n")?;
     assert_eq!(rt; sink.flush(), Ok(()));
     Ok(())

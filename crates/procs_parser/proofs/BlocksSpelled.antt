@@ -1,12 +1,12 @@
 -- The statements of files by their grammar, as those of any language.
 use Rattle.std.proofs.Common.{◌≡◌, ℕ, List, [], ◌∷◌, ◌++◌, refl, ap, subst, append_assoc}
-use Rattle.src_lexer.specs.declared.tokens.TokenKind.{TokenKind}
+use Rattle.src_lexer.specs.declared.tokens.Kind.{Kind}
 use Rattle.src_procs.specs.Prelude.{Statement, Choice, Loop, Call, Block, Nothing, Then, block_of}
 use Rattle.src_parser.specs.Prelude.{Limits}
 use Rattle.src_parser.proofs.Spelled.{Spelled, NoneLeft, Assigns, Stores, Decides, DecidesElse, Loops, Adds, spelled_at}
 use Rattle.procs_parser.specs.Prelude.{with_calls, SpellsBlock, Ends, Sets, Puts, Calls, Chooses, ChoosesElse, Repeats}
 use Rattle.procs_parser.proofs.CallTokens.{IsCall, ACall}
-use Rattle.src_lexer.specs.declared.tokens.TokenKind.TheVariants as kind
+use Rattle.src_lexer.specs.declared.tokens.Kind.TheVariants as kind
 
 -- the statements of a block
 abbrev pub statements_of : Block → List Statement
@@ -17,7 +17,7 @@ pub block_again : (block : Block) → block_of (statements_of block) ≡ block
 block_again Nothing = refl
 block_again (Then s block) = ap (Then s) (block_again block)
 
-pub block_spelled : {most : Limits} {depth : ℕ} {tokens : List TokenKind} {block : Block}
+pub block_spelled : {most : Limits} {depth : ℕ} {tokens : List Kind} {block : Block}
     → SpellsBlock most depth tokens block
     → Spelled with_calls (IsCall most) most depth tokens (statements_of block)
 block_spelled Ends = NoneLeft
@@ -39,13 +39,13 @@ block_spelled {most} {depth} {tokens} (Repeats {test = test} {body = body} {bloc
     subst (λ z. Spelled with_calls (IsCall most) most depth tokens (Loop test z ∷ statements_of block))
     (block_again body) (Loops g room (block_spelled inner) (block_spelled w))
 
-call_first : {most : Limits} {depth : ℕ} {tokens rest : List TokenKind} {s : Statement} {block : Block}
+call_first : {most : Limits} {depth : ℕ} {tokens rest : List Kind} {s : Statement} {block : Block}
     → IsCall most tokens s → SpellsBlock most depth rest block → SpellsBlock most depth (tokens ++ rest) (Then s block)
 call_first {most} {depth} {rest = rest} {block = block} (ACall {tokens = tokens} {es = es} name given) w =
     subst (λ z. SpellsBlock most depth (kind.Word name ∷ kind.LParen ∷ z) (Then (Call name es) block))
     (simp append_assoc refl) (Calls name given w)
 
-pub spelled_block : {most : Limits} {depth : ℕ} {tokens : List TokenKind} {ss : List Statement}
+pub spelled_block : {most : Limits} {depth : ℕ} {tokens : List Kind} {ss : List Statement}
     → Spelled with_calls (IsCall most) most depth tokens ss → SpellsBlock most depth tokens (block_of ss)
 spelled_block NoneLeft = Ends
 spelled_block (Assigns name s fits w) = Sets name s fits (spelled_block w)

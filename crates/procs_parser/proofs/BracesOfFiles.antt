@@ -1,7 +1,7 @@
 -- The open blocks of a state are the open braces of its tokens.
 use Rattle.std.proofs.Common.{◌≡◌, ℕ, ◌+◌, Bool, true, false, List, [], Option, Some, None, refl, sym, ap, ◌∙◌, subst, arith}
 use Rattle.std.specs.Prelude.{nat_lt, bytes_eq, if◌then◌else◌}
-use Rattle.src_lexer.specs.declared.tokens.TokenKind.{TokenKind}
+use Rattle.src_lexer.specs.declared.tokens.Kind.{Kind}
 use Rattle.src_tree.specs.declared.trees.Decl.{Decl}
 use Rattle.src_procs.specs.Prelude.{Statement, Parameter, Procedure}
 use Rattle.procs_parser.specs.Prelude.{proc_word, CallStep, Still, Done, call_advanced, ParserState, Between, Declaring, Doing, Calling, Naming, Front, Outside, InProcedure, HeadPhase, Opening, NoneYet, OneMore, ScalarLabelled, ScalarTyped, ArrayTyped, ArrayTitled, ArrayClosing, Behind, AllRead, LocalFresh, LocalLabelled, LocalTyped, LocalTitled, front_depth, with_calls, head_depth, performs, ending, brace_next, target_of, bracket_next, opening, word_next, statement_next, with_call, between, parameter_begins, names_next, is_hidden_token, taken, with_heading, advanced, open_braces}
@@ -10,12 +10,12 @@ use Rattle.src_parser.proofs.Tokenwise.{Counted}
 use Rattle.src_parser.proofs.Braces.{same_state, mapped_goes, braces_counted, heading_counted}
 use Rattle.src_parser.proofs.StatementBraces.{statements_counted}
 use Rattle.procs_parser.proofs.CallLimits.{call_counted}
-use Rattle.src_lexer.specs.declared.tokens.TokenKind.TheVariants as kind
+use Rattle.src_lexer.specs.declared.tokens.Kind.TheVariants as kind
 
 same_count : (x y : ParserState) → ◌≡◌ {A = Advance ParserState} (Goes x) (Goes y) → open_braces y ≡ open_braces x
 same_count x y e = ap open_braces (sym (same_state x y e))
 
-performs_counted : (most : Limits) (front : Front) (blocks : Blocks Statement) (k : TokenKind) (next : ParserState)
+performs_counted : (most : Limits) (front : Front) (blocks : Blocks Statement) (k : Kind) (next : ParserState)
     → performs most front blocks k ≡ Goes next
     → Counted k most.braces (depth_of (front_depth front) blocks) (open_braces next)
 performs_counted most front blocks k next e =
@@ -67,7 +67,7 @@ word_counted most front outer here phase other (Some name) next e =
 word_counted most front outer here phase other None next e =
     performs_counted most front (Among outer here phase) (kind.Word other) next e
 
-statement_counted : (most : Limits) (front : Front) (blocks : Blocks Statement) (k : TokenKind) (next : ParserState)
+statement_counted : (most : Limits) (front : Front) (blocks : Blocks Statement) (k : Kind) (next : ParserState)
     → statement_next most front blocks k ≡ Goes next
     → Counted k most.braces (depth_of (front_depth front) blocks) (open_braces next)
 statement_counted most front (Among outer here phase) kind.LParen next e =
@@ -79,7 +79,7 @@ statement_counted most front (Among outer here phase) kind.RBrace next e =
 statement_counted most front (Among outer here phase) k next e =
     performs_counted most front (Among outer here phase) k next e
 
-between_counted : (most : Limits) (decls : List Decl) (k : TokenKind) (next : ParserState)
+between_counted : (most : Limits) (decls : List Decl) (k : Kind) (next : ParserState)
     → between most decls k ≡ Goes next → Counted k most.braces 0 (open_braces next)
 between_counted most decls kind.Public next e = same_count _ next e
 between_counted most decls kind.Secret next e = same_count _ next e
@@ -95,7 +95,7 @@ heading_count decls (Begun heading) = refl
 heading_count decls (Declared decl) = refl
 
 parameter_counted : (most : ℕ) (decls : List Decl) (procedures : List Procedure) (name : List ℕ) (ps : List Parameter)
-    (k : TokenKind) (next : ParserState) → parameter_begins decls procedures name ps k ≡ Goes next
+    (k : Kind) (next : ParserState) → parameter_begins decls procedures name ps k ≡ Goes next
     → Counted k most 0 (open_braces next)
 parameter_counted most decls procedures name ps kind.Public next e = same_count _ next e
 parameter_counted most decls procedures name ps kind.Secret next e = same_count _ next e
@@ -103,7 +103,7 @@ parameter_counted most decls procedures name ps kind.Int next e = same_count _ n
 parameter_counted most decls procedures name ps _ next e = absurd (cc)
 
 names_counted : (most : Limits) (decls : List Decl) (procedures : List Procedure) (name : List ℕ) (phase : HeadPhase)
-    (k : TokenKind) (next : ParserState) → names_next most decls procedures name phase k ≡ Goes next
+    (k : Kind) (next : ParserState) → names_next most decls procedures name phase k ≡ Goes next
     → Counted k most.braces (head_depth phase) (open_braces next)
 names_counted most decls procedures name Opening kind.LParen next e = same_count _ next e
 names_counted most decls procedures name Opening _ next e = absurd (cc)
@@ -139,7 +139,7 @@ names_counted most decls procedures name (LocalTyped ps ls label) _ next e = abs
 names_counted most decls procedures name (LocalTitled ps ls label x) kind.Semi next e = same_count _ next e
 names_counted most decls procedures name (LocalTitled ps ls label x) _ next e = absurd (cc)
 
-plain_counted : (most : Limits) (state : ParserState) (k : TokenKind) (next : ParserState)
+plain_counted : (most : Limits) (state : ParserState) (k : Kind) (next : ParserState)
     → advanced most state k ≡ Goes next → Counted k most.braces (open_braces state) (open_braces next)
 plain_counted most (Between decls) k next e = between_counted most decls k next e
 plain_counted most (Declaring decls heading) k next e =
@@ -161,6 +161,6 @@ pub shown : (b : Bool) (t : Advance ParserState) (next : ParserState) → (if b 
 shown true t next e = absurd (cc)
 shown false t next e = (refl, e)
 
-pub counted : (most : Limits) (state : ParserState) (k : TokenKind) (next : ParserState)
+pub counted : (most : Limits) (state : ParserState) (k : Kind) (next : ParserState)
     → taken most state k ≡ Goes next → Counted k most.braces (open_braces state) (open_braces next)
 counted most state k next e = plain_counted most state k next (shown (is_hidden_token k) _ next e).1

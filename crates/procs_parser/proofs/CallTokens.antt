@@ -1,41 +1,41 @@
 -- The tokens of a call that lead to each state of it, and how they can be completed.
 use Rattle.std.proofs.Common.{◌≡◌, ℕ, ◌+◌, List, [], ◌∷◌, ◌++◌, Option, Some, None, refl, sym, subst, append_assoc, arith}
 use Rattle.std.proofs.lemmas.List.{append-nil}
-use Rattle.src_lexer.specs.declared.tokens.TokenKind.{TokenKind}
+use Rattle.src_lexer.specs.declared.tokens.Kind.{Kind}
 use Rattle.src_tree.specs.Prelude.{Tree}
 use Rattle.src_procs.specs.Prelude.{Statement, Call}
 use Rattle.src_parser.specs.Prelude.{Limits, operators, SpellsTree, Reading, At, Wanted, TokenStep, Moves, Stops, Deep, reads, whole, used_of, Advance, Goes}
 use Rattle.src_parser.proofs.Held.{HasNoName, no_name_in_both, Start}
 use Rattle.src_parser.proofs.Reached.{Reached, Wants, reaches, Ended, ends, Fitting, fitting}
 use Rattle.procs_parser.specs.Prelude.{Opened, Argument, Called, CallState, InCall, CallStep, Still, Done, behind_argument, argument_ends, in_argument, first_argument, call_advanced, SpellsTrees, Last, Before, Arguments, NoArgument, Given, operators_of}
-use Rattle.src_lexer.specs.declared.tokens.TokenKind.TheVariants as kind
+use Rattle.src_lexer.specs.declared.tokens.Kind.TheVariants as kind
 
 -- tokens that are a call
-pub data IsCall (most : Limits) : List TokenKind → Statement → Type 0 where
-  ACall : {tokens : List TokenKind} {es : List Tree} (name : List ℕ) → Arguments most tokens es
+pub data IsCall (most : Limits) : List Kind → Statement → Type 0 where
+  ACall : {tokens : List Kind} {es : List Tree} (name : List ℕ) → Arguments most tokens es
       → IsCall most (kind.Word name ∷ kind.LParen ∷ (tokens ++ kind.RParen ∷ kind.Semi ∷ [])) (Call name es)
 
 -- these tokens lead to the next argument, after these, with this many used operators
-pub data Argues (most : Limits) : (before : List Tree) (start : ℕ) → List TokenKind → Type 0 where
+pub data Argues (most : Limits) : (before : List Tree) (start : ℕ) → List Kind → Type 0 where
   IsFirst : Argues most [] 0 []
-  IsNext : {tokens : List TokenKind} {es : List Tree} → SpellsTrees most.brackets tokens es
+  IsNext : {tokens : List Kind} {es : List Tree} → SpellsTrees most.brackets tokens es
       → Argues most es (operators_of es) (tokens ++ kind.Semi ∷ [])
 
 -- these tokens after `(` lead to this state of a call
-pub data CallStands (most : Limits) : CallState → List TokenKind → Type 0 where
+pub data CallStands (most : Limits) : CallState → List Kind → Type 0 where
   IsOpened : CallStands most (InCall [] Opened) []
-  IsArgument : {before : List Tree} {start : ℕ} {x : Reading} {ts us : List TokenKind}
+  IsArgument : {before : List Tree} {start : ℕ} {x : Reading} {ts us : List Kind}
       → Argues most before start ts → Reached most 0 start x us
       → CallStands most (InCall before (Argument x)) (ts ++ us)
-  IsCalled : {tokens : List TokenKind} {es : List Tree} → Arguments most tokens es
+  IsCalled : {tokens : List Kind} {es : List Tree} → Arguments most tokens es
       → CallStands most (InCall es Called) (tokens ++ kind.RParen ∷ [])
 
-abbrev pub StepStands : Limits → CallStep → List TokenKind → Type 0
+abbrev pub StepStands : Limits → CallStep → List Kind → Type 0
 StepStands most (Still call) tokens = CallStands most call tokens
 StepStands most (Done es) tokens = (name : List ℕ) → IsCall most (kind.Word name ∷ kind.LParen ∷ tokens) (Call name es)
 
 -- one expression more
-trees_more : {most : ℕ} {tokens us : List TokenKind} {es : List Tree} {e : Tree} → SpellsTrees most tokens es
+trees_more : {most : ℕ} {tokens us : List Kind} {es : List Tree} {e : Tree} → SpellsTrees most tokens es
     → SpellsTree most 0 0 us e → SpellsTrees most (tokens ++ kind.Semi ∷ us) (es ++ e ∷ [])
 trees_more (Last s) t = Before s (Last t)
 trees_more {most} {us = us} {e = e} (Before {tokens = tokens} {rest = rest} {e = a} {es = es} s others) t =
@@ -46,21 +46,21 @@ operators_more : (es : List Tree) (e : Tree) → operators_of (es ++ e ∷ []) �
 operators_more [] e = omega arith
 operators_more (a ∷ es) e = let h = operators_more es e in omega (arith, h)
 
-went : (most : Limits) (tokens : List TokenKind) (x y : CallStep) → ◌≡◌ {A = Advance CallStep} (Goes x) (Goes y)
+went : (most : Limits) (tokens : List Kind) (x y : CallStep) → ◌≡◌ {A = Advance CallStep} (Goes x) (Goes y)
     → StepStands most x tokens → StepStands most y tokens
 went most tokens x y e s = subst (λ z. StepStands most z tokens) (let f : x ≡ y = cc in f) s
 
-stands_at : {most : Limits} {call : CallState} (ts us : List TokenKind) → ts ≡ us → CallStands most call ts
+stands_at : {most : Limits} {call : CallState} (ts us : List Kind) → ts ≡ us → CallStands most call ts
     → CallStands most call us
 stands_at {most} {call} ts us e s = subst (λ z. CallStands most call z) e s
 
-is_call_at : {most : Limits} {name : List ℕ} {s : Statement} (ts us : List TokenKind) → ts ≡ us
+is_call_at : {most : Limits} {name : List ℕ} {s : Statement} (ts us : List Kind) → ts ≡ us
     → IsCall most (kind.Word name ∷ kind.LParen ∷ ts) s → IsCall most (kind.Word name ∷ kind.LParen ∷ us) s
 is_call_at {most} {name} {s} ts us e c = subst (λ z. IsCall most (kind.Word name ∷ kind.LParen ∷ z) s) e c
 
 -- a token after an argument
-behind_argument_stands : {most : Limits} {start : ℕ} {ts us : List TokenKind} {es : List Tree} (tree : Tree) (used : ℕ)
-    → Argues most es start ts → Ended most 0 start us tree used → (k : TokenKind) (next : CallStep)
+behind_argument_stands : {most : Limits} {start : ℕ} {ts us : List Kind} {es : List Tree} (tree : Tree) (used : ℕ)
+    → Argues most es start ts → Ended most 0 start us tree used → (k : Kind) (next : CallStep)
     → behind_argument (es ++ tree ∷ []) used k ≡ Goes next → StepStands most next ((ts ++ us) ++ k ∷ [])
 behind_argument_stands {us = us} tree used IsFirst ended kind.Semi next e =
     let counted = ended.counted in
@@ -80,23 +80,23 @@ behind_argument_stands {us = us} tree used (IsNext {tokens = tokens} {es = es} r
     (IsCalled (Given (trees_more read ended.spells) (omega (arith, all, counted, fits)))))
 behind_argument_stands tree used (IsNext read) ended _ next e = absurd (cc)
 
-argument_ends_stands : {most : Limits} {start : ℕ} {ts us : List TokenKind} {es : List Tree} (x y : Reading)
-    → Argues most es start ts → Reached most 0 start x us → (k : TokenKind) → reads most x k ≡ Stops y
+argument_ends_stands : {most : Limits} {start : ℕ} {ts us : List Kind} {es : List Tree} (x y : Reading)
+    → Argues most es start ts → Reached most 0 start x us → (k : Kind) → reads most x k ≡ Stops y
     → (w : Option Tree) → whole y ≡ w → (next : CallStep) → argument_ends es w (used_of y) k ≡ Goes next
     → StepStands most next ((ts ++ us) ++ k ∷ [])
 argument_ends_stands x y a r k stop None is next e = absurd (cc)
 argument_ends_stands x y a r k stop (Some tree) is next e =
     behind_argument_stands tree (used_of y) a (ends r k y tree stop is) k next e
 
-argument_stands : {most : Limits} {start : ℕ} {ts us : List TokenKind} {es : List Tree} (x : Reading)
-    → Argues most es start ts → Reached most 0 start x us → (k : TokenKind) (step : TokenStep) → reads most x k ≡ step
+argument_stands : {most : Limits} {start : ℕ} {ts us : List Kind} {es : List Tree} (x : Reading)
+    → Argues most es start ts → Reached most 0 start x us → (k : Kind) (step : TokenStep) → reads most x k ≡ step
     → (next : CallStep) → in_argument es k step ≡ Goes next → StepStands most next ((ts ++ us) ++ k ∷ [])
 argument_stands {ts = ts} {us = us} x a r k (Moves y) is next e =
     went _ _ _ next e (stands_at _ _ (sym (append_assoc ts us (k ∷ []))) (IsArgument a (reaches r k y is)))
 argument_stands x a r k (Stops y) is next e = argument_ends_stands x y a r k is (whole y) refl next e
 argument_stands x a r k Deep is next e = absurd (cc)
 
-first_stands : (most : Limits) (k : TokenKind) (next : CallStep) → first_argument most [] k ≡ Goes next
+first_stands : (most : Limits) (k : Kind) (next : CallStep) → first_argument most [] k ≡ Goes next
     → StepStands most next (k ∷ [])
 first_stands most kind.RParen next e = went _ _ _ next e (IsCalled NoArgument)
 first_stands most k next e =
@@ -104,8 +104,8 @@ first_stands most k next e =
     (reads most (At [] 0 0 Wanted) k) refl next e
 
 -- a token of a call
-pub call_steps : {most : Limits} {call : CallState} {tokens : List TokenKind} → CallStands most call tokens
-    → (k : TokenKind) (next : CallStep) → call_advanced most call k ≡ Goes next
+pub call_steps : {most : Limits} {call : CallState} {tokens : List Kind} → CallStands most call tokens
+    → (k : Kind) (next : CallStep) → call_advanced most call k ≡ Goes next
     → StepStands most next (tokens ++ k ∷ [])
 call_steps {most} IsOpened k next e = first_stands most k next e
 call_steps {most} (IsArgument {x = x} a r) k next e = argument_stands x a r k (reads most x k) refl next e
@@ -114,13 +114,13 @@ call_steps (IsCalled {tokens = tokens} given) kind.Semi next e =
 call_steps (IsCalled given) _ next e = absurd (cc)
 
 -- some more tokens, of which none is a name, complete the call
-pub record CallCompletes (most : Limits) (tokens : List TokenKind) : Type 0 where
-  pub more : List TokenKind
+pub record CallCompletes (most : Limits) (tokens : List Kind) : Type 0 where
+  pub more : List Kind
   pub nameless : HasNoName more
   pub arguments : List Tree
   pub is : (name : List ℕ) → IsCall most (kind.Word name ∷ kind.LParen ∷ (tokens ++ more)) (Call name arguments)
 
-argument_completes : {most : Limits} {start : ℕ} {before : List Tree} {ts us : List TokenKind}
+argument_completes : {most : Limits} {start : ℕ} {before : List Tree} {ts us : List Kind}
     → Argues most before start ts → Fitting most 0 start us → CallCompletes most (ts ++ us)
 argument_completes {us = us} IsFirst f = let fits = f.fits in record {
   more = f.more ++ kind.RParen ∷ kind.Semi ∷ [];
@@ -138,7 +138,7 @@ argument_completes {us = us} (IsNext {tokens = tokens} {es = es} read) f =
           (ACall name (Given (trees_more read f.spells) (omega (arith, all, fits))));
     }
 
-pub call_completes : {most : Limits} {call : CallState} {tokens : List TokenKind} → CallStands most call tokens
+pub call_completes : {most : Limits} {call : CallState} {tokens : List Kind} → CallStands most call tokens
     → CallCompletes most tokens
 call_completes IsOpened =
     record { more = kind.RParen ∷ kind.Semi ∷ []; nameless = tt; arguments = []; is = λ name. ACall name NoArgument }

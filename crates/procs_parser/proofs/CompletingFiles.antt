@@ -1,7 +1,7 @@
 -- Tokens that lead to a state within the braces go on to a file, by tokens in which no name is hidden.
 use Rattle.std.proofs.Common.{◌≡◌, ℕ, ◌<◌, List, [], ◌∷◌, ◌++◌, refl, sym, ap, ◌∙◌, subst, append_assoc, arith}
 use Rattle.std.proofs.lemmas.List.{append-nil}
-use Rattle.src_lexer.specs.declared.tokens.TokenKind.{TokenKind}
+use Rattle.src_lexer.specs.declared.tokens.Kind.{Kind}
 use Rattle.src_tree.specs.declared.trees.Decl.{Decl}
 use Rattle.src_procs.specs.Prelude.{Statement, Nothing, Parameter, Procedure, File, block_of}
 use Rattle.procs_parser.specs.Prelude.{HasNoHiddenName, SpellsParameter, AScalar, AnArray, Parameters, NoParameter, SomeParameters, Locals, NoLocal, proc_word, NoProcedure, SpellsBlock, Ends, ParserState, HeadPhase, Front, Outside, front_depth, with_calls, open_braces}
@@ -13,30 +13,30 @@ use Rattle.src_parser.proofs.StatementsStanding.{Enclosed, Completed, statement_
 use Rattle.procs_parser.proofs.BlocksSpelled.{spelled_block}
 use Rattle.procs_parser.proofs.CallTokens.{IsCall, CallCompletes, call_completes}
 use Rattle.procs_parser.proofs.StandingFiles.{Sentence, Program, Begun, AtTop, InBody, ParametersBefore, SomeBefore, head_of, Names, IsOpening, IsNoneYet, IsOneMore, IsScalarLabelled, IsScalarTyped, IsArrayTyped, IsArrayTitled, IsArrayClosing, IsBehind, IsAllRead, IsLocalFresh, IsLocalLabelled, IsLocalTyped, IsLocalTitled, one_parameter, one_local, procedure_ends, Standing, InBetween, InHeading, InHead, InStatements, InArguments}
-use Rattle.src_lexer.specs.declared.tokens.TokenKind.TheVariants as kind
+use Rattle.src_lexer.specs.declared.tokens.Kind.TheVariants as kind
 
 -- some more tokens, in which no name is hidden, make a file
-pub record Complete (most : Limits) (tokens : List TokenKind) : Type 0 where
-  pub more : List TokenKind
+pub record Complete (most : Limits) (tokens : List Kind) : Type 0 where
+  pub more : List Kind
   pub shown : HasNoHiddenName more
   pub tree : File
   pub sentence : Sentence most (tokens ++ more) tree
 
-pub shown_both : (a b : List TokenKind) → HasNoHiddenName a → HasNoHiddenName b → HasNoHiddenName (a ++ b)
+pub shown_both : (a b : List Kind) → HasNoHiddenName a → HasNoHiddenName b → HasNoHiddenName (a ++ b)
 shown_both [] b s t = t
 shown_both (kind.Word name ∷ a) b s t = (s.0, shown_both a b s.1 t)
 shown_both (_ ∷ a) b s t = shown_both a b s t
 
 -- tokens without names have no hidden one
-all_shown : (a : List TokenKind) → HasNoName a → HasNoHiddenName a
+all_shown : (a : List Kind) → HasNoName a → HasNoHiddenName a
 all_shown [] h = tt
 all_shown (kind.Word name ∷ a) h = absurd h
 all_shown (_ ∷ a) h = all_shown a h
 
-completes_at : {most : Limits} (xs ys : List TokenKind) → xs ≡ ys → Complete most xs → Complete most ys
+completes_at : {most : Limits} (xs ys : List Kind) → xs ≡ ys → Complete most xs → Complete most ys
 completes_at {most} xs ys e c = subst (λ z. Complete most z) e c
 
-shorter : {most : Limits} (ts us : List TokenKind) → HasNoHiddenName us → Complete most (ts ++ us) → Complete most ts
+shorter : {most : Limits} (ts us : List Kind) → HasNoHiddenName us → Complete most (ts ++ us) → Complete most ts
 shorter {most} ts us shown c = record {
   more = us ++ c.more;
   shown = shown_both us c.more shown c.shown;
@@ -44,7 +44,7 @@ shorter {most} ts us shown c = record {
   sentence = subst (λ z. Sentence most z c.tree) (append_assoc ts us c.more) c.sentence;
 }
 
-outside_completes : {most : Limits} {decls : List Decl} {procedures : List Procedure} {before back : List TokenKind}
+outside_completes : {most : Limits} {decls : List Decl} {procedures : List Procedure} {before back : List Kind}
     (here : List Statement) → Begun most (Outside decls procedures) before → SpellsBlock most 0 back (block_of here)
     → Complete most (before ++ back)
 outside_completes {most} {back = back} here
@@ -57,7 +57,7 @@ outside_completes {most} {back = back} here
           (sym (append-nil ((first ++ middle) ++ back))) (Program d p w);
     }
 
-top_completes : {most : Limits} {front : Front} {before back : List TokenKind} (here : List Statement)
+top_completes : {most : Limits} {front : Front} {before back : List Kind} (here : List Statement)
     → Begun most front before → SpellsBlock most (front_depth front) back (block_of here) → Complete most (before ++ back)
 top_completes here (AtTop d p) w = outside_completes here (AtTop d p) w
 top_completes here (InBody name b p room l) w =
@@ -65,7 +65,7 @@ top_completes here (InBody name b p room l) w =
     (completes_at _ _ (append-nil _) (outside_completes [] (procedure_ends (InBody name b p room l) w) Ends))
 
 -- statements that some more tokens complete
-statements_completed : {most : Limits} {front : Front} {ts us : List TokenKind} → Begun most front ts
+statements_completed : {most : Limits} {front : Front} {ts us : List Kind} → Begun most front ts
     → Completed with_calls (IsCall most) most (front_depth front) us → Complete most (ts ++ us)
 statements_completed {ts = ts} {us = us} b c =
     shorter (ts ++ us) c.more (all_shown c.more c.nameless)
@@ -73,14 +73,14 @@ statements_completed {ts = ts} {us = us} b c =
 
 -- and a call
 call_completed : {most : Limits} {front : Front} {outer : List (Outer Statement)} {depth : ℕ} {here : List Statement}
-    {ts us vs : List TokenKind} (name : List ℕ) → Begun most front ts
+    {ts us vs : List Kind} (name : List ℕ) → Begun most front ts
     → Enclosed with_calls (IsCall most) most (front_depth front) outer depth here us → CallCompletes most vs
     → Complete most (ts ++ (us ++ (kind.Word name ∷ kind.LParen ∷ vs)))
 call_completed {vs = vs} name b o c =
     statements_completed b (statement_completes (kind.Word name ∷ kind.LParen ∷ vs) c.more c.nameless o
     (spelled_at _ _ (append-nil (kind.Word name ∷ kind.LParen ∷ (vs ++ c.more))) (Adds (c.is name) NoneLeft)))
 
-declared_completes : {most : Limits} {decls : List Decl} {first : List TokenKind} → Declares first decls
+declared_completes : {most : Limits} {decls : List Decl} {first : List Kind} → Declares first decls
     → Complete most first
 declared_completes {most} {decls} {first} d = record {
   more = [];
@@ -98,7 +98,7 @@ rest_shown other = tt
 
 -- a procedure without statements, of which this many tokens were read
 head_completes : {most : Limits} {decls locals : List Decl} {procedures : List Procedure} {name : List ℕ}
-    {parameters : List Parameter} {before ps ls : List TokenKind} (us more : List TokenKind) → HasNoHiddenName more
+    {parameters : List Parameter} {before ps ls : List Kind} (us more : List Kind) → HasNoHiddenName more
     → Begun most (Outside decls procedures) before → Parameters ps parameters → 0 < most.braces → Locals ls locals
     → head_of name (ps ++ kind.RParen ∷ kind.LBrace ∷ (ls ++ kind.RBrace ∷ [])) ≡ us ++ more
     → Complete most (before ++ us)
@@ -110,7 +110,7 @@ head_completes {name = name} {before = before} {ps = ps} {ls = ls} us more shown
 
 -- a head with its parameters
 parameters_complete : {most : Limits} {decls : List Decl} {procedures : List Procedure} (name : List ℕ)
-    {parameters : List Parameter} {before ps : List TokenKind} (us more : List TokenKind) → HasNoHiddenName more
+    {parameters : List Parameter} {before ps : List Kind} (us more : List Kind) → HasNoHiddenName more
     → Begun most (Outside decls procedures) before → Parameters ps parameters → 0 < most.braces
     → ps ≡ us ++ more → Complete most (before ++ head_of name us)
 parameters_complete name {ps = ps} us more shown b p room is =
@@ -120,7 +120,7 @@ parameters_complete name {ps = ps} us more shown b p room is =
     ∙ ap (λ z. head_of name z) (append_assoc us more (kind.RParen ∷ kind.LBrace ∷ kind.RBrace ∷ [])))
 
 one_more : {most : Limits} {decls : List Decl} {procedures : List Procedure} (name : List ℕ)
-    {ps : List Parameter} {p : Parameter} {before ts : List TokenKind} (us more : List TokenKind) → HasNoHiddenName more
+    {ps : List Parameter} {p : Parameter} {before ts : List Kind} (us more : List Kind) → HasNoHiddenName more
     → Begun most (Outside decls procedures) before → ParametersBefore ts ps → 0 < most.braces
     → SpellsParameter (us ++ more) p → Complete most (before ++ head_of name (ts ++ us))
 one_more name {ts = ts} us more shown b before room s =
@@ -128,7 +128,7 @@ one_more name {ts = ts} us more shown b before room s =
     (sym (append_assoc ts us more))
 
 pub names_complete : {most : Limits} {decls : List Decl} {procedures : List Procedure} {name : List ℕ}
-    {phase : HeadPhase} {before us : List TokenKind} → Begun most (Outside decls procedures) before
+    {phase : HeadPhase} {before us : List Kind} → Begun most (Outside decls procedures) before
     → Names most name phase us → 0 < most.braces → Complete most (before ++ us)
 names_complete {name = name} b IsOpening room =
     head_completes {name = name} (kind.Word proc_word ∷ kind.Word name ∷ [])
@@ -175,7 +175,7 @@ names_complete {name = name} b (IsLocalTitled {ts = ts} {us = us} label x p fit 
     (kind.Semi ∷ kind.RBrace ∷ []) tt b p room (one_local label x l) (simp append_assoc refl)
 
 -- tokens that lead to a state within the braces go on to a file
-pub standing_completes : {most : Limits} {state : ParserState} {tokens : List TokenKind}
+pub standing_completes : {most : Limits} {state : ParserState} {tokens : List Kind}
     → Standing most state tokens → open_braces state < most.braces → Complete most tokens
 standing_completes (InBetween d) room = declared_completes d
 standing_completes (InHeading {heading = heading} {first = first} {us = us} d h) room =

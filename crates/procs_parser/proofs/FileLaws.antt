@@ -1,7 +1,7 @@
 -- The laws of single tokens, and of the states that tokens lead to, by which a file is read token by token.
 use Rattle.std.proofs.Common.{◌≡◌, ◌<◌, false, List, [], ◌∷◌, ◌++◌, Option, Some, refl, sym, subst, append_assoc}
 use Rattle.std.proofs.lemmas.List.{append-nil}
-use Rattle.src_lexer.specs.declared.tokens.TokenKind.{TokenKind}
+use Rattle.src_lexer.specs.declared.tokens.Kind.{Kind}
 use Rattle.src_lexer.specs.declared.tokens.Token.{Token}
 use Rattle.src_parser.specs.Prelude.{Limits, complete_of, ReadsTo, Goes, Completes}
 use Rattle.src_parser.specs.Readers.{Stops}
@@ -20,20 +20,20 @@ use Rattle.procs_parser.proofs.ReadFiles.{file_read}
 use Rattle.procs_parser.proofs.RoomsOfFiles.{shape}
 use Rattle.procs_parser.proofs.StandingFiles.{Sentence, Program, Begun, AtTop, Standing, InBetween, InHeading, InHead, InStatements, InArguments}
 use Rattle.procs_parser.proofs.StepsOfFiles.{steps, nothing_read}
-use Rattle.src_lexer.specs.declared.tokens.TokenKind.TheVariants as kind
+use Rattle.src_lexer.specs.declared.tokens.Kind.TheVariants as kind
 use Rattle.src_parser.specs.declared.errors.ParseError.TheVariants as error
 
 -- tokens that were taken lead to a state, and none of them is hidden
-pub record WasTaken (most : Limits) (last : ParserState) (tokens : List TokenKind) : Type 0 where
+pub record WasTaken (most : Limits) (last : ParserState) (tokens : List Kind) : Type 0 where
   pub standing : Standing most last tokens
   pub shown : HasNoHiddenName tokens
 
-one_shown : (k : TokenKind) → is_hidden_token k ≡ false → HasNoHiddenName (k ∷ [])
+one_shown : (k : Kind) → is_hidden_token k ≡ false → HasNoHiddenName (k ∷ [])
 one_shown (kind.Word name) e = (e, tt)
 one_shown _ e = tt
 
-taken_step : (most : Limits) (state : ParserState) (tokens : List TokenKind) → WasTaken most state tokens
-    → (k : TokenKind) (next : ParserState) → taken most state k ≡ Goes next → WasTaken most next (tokens ++ k ∷ [])
+taken_step : (most : Limits) (state : ParserState) (tokens : List Kind) → WasTaken most state tokens
+    → (k : Kind) (next : ParserState) → taken most state k ≡ Goes next → WasTaken most next (tokens ++ k ∷ [])
 taken_step most state tokens w k next e =
     let s = shown (is_hidden_token k) _ next e in
     record {
@@ -42,14 +42,14 @@ taken_step most state tokens w k next e =
     }
 
 -- a file by the grammar, where no name is hidden
-shown_file : {most : Limits} {tokens : List TokenKind} {f : File} → Sentence most tokens f → HasNoHiddenName tokens
+shown_file : {most : Limits} {tokens : List Kind} {f : File} → Sentence most tokens f → HasNoHiddenName tokens
     → SpellsFile most tokens f
 shown_file {most} (Program {first = first} {middle = middle} {back = back} {decls = decls} {procedures = procedures}
     {body = body} d p w) s =
     subst (λ z. SpellsFile most z (record { decls = decls; procedures = procedures; body = body }))
     (sym (append_assoc first middle back)) (AFile (subst HasNoHiddenName (append_assoc first middle back) s) d p w)
 
-completes : (most : Limits) (last : ParserState) (tokens : List TokenKind) → WasTaken most last tokens
+completes : (most : Limits) (last : ParserState) (tokens : List Kind) → WasTaken most last tokens
     → open_braces last < most.braces → Completes SpellsFile most tokens
 completes most last tokens w room =
     let c = standing_completes w.standing room in
@@ -59,10 +59,10 @@ completes most last tokens w room =
       sentence = shown_file c.sentence (shown_both tokens c.more w.shown c.shown);
     }
 
-sentence_at : {most : Limits} {f : File} (xs ys : List TokenKind) → xs ≡ ys → Sentence most xs f → Sentence most ys f
+sentence_at : {most : Limits} {f : File} (xs ys : List Kind) → xs ≡ ys → Sentence most xs f → Sentence most ys f
 sentence_at {most} {f} xs ys e s = subst (λ z. Sentence most z f) e s
 
-whole_statements : {most : Limits} {front : Front} {ts us : List TokenKind} → Begun most front ts
+whole_statements : {most : Limits} {front : Front} {ts us : List Kind} → Begun most front ts
     → (o : Option (List Statement))
     → ((ss : List Statement) → o ≡ Some ss → Spelled with_calls (IsCall most) most (front_depth front) us ss)
     → (f : File) → file_at front o ≡ Some f → Sentence most (ts ++ us) f
@@ -73,7 +73,7 @@ whole_statements {most} {us = us} (AtTop {first = first} {middle = middle} {decl
 whole_statements _ _ spelled f e = absurd (cc)
 
 -- a state in which a file is whole has read that file
-whole : {most : Limits} {last : ParserState} {tokens : List TokenKind} → Standing most last tokens → (f : File)
+whole : {most : Limits} {last : ParserState} {tokens : List Kind} → Standing most last tokens → (f : File)
     → program_of last ≡ Some f → Sentence most tokens f
 whole {most} (InBetween {decls = decls} {first = first} d) f e =
     let g : ◌≡◌ {A = File} (record { decls = decls; procedures = []; body = Nothing }) f = cc in
@@ -98,7 +98,7 @@ file_laws = record {
 }
 
 -- tokens have at most one tree
-pub one_file : (most : Limits) (tokens : List TokenKind) (f g : File) → SpellsFile most tokens f
+pub one_file : (most : Limits) (tokens : List Kind) (f g : File) → SpellsFile most tokens f
     → SpellsFile most tokens g → f ≡ g
 one_file most tokens f g s t = let a = file_read s in let b = file_read t in cc
 

@@ -4,35 +4,35 @@ use Rattle.std.specs.Prelude.{if◌then◌else◌}
 use Rattle.std.proofs.lemmas.List.{append-nil}
 use Rattle.std.proofs.lemmas.Bool.{lt-ltb}
 use Rattle.gr_word.specs.declared.variables.Label.TheVariants.{Public, Secret}
-use Rattle.src_lexer.specs.declared.tokens.TokenKind.{TokenKind}
+use Rattle.src_lexer.specs.declared.tokens.Kind.{Kind}
 use Rattle.src_tree.specs.declared.trees.Decl.{Decl}
 use Rattle.src_procs.specs.Prelude.{Block, Parameter, Procedure, File}
 use Rattle.src_parser.specs.Prelude.{Advance, Goes, Wrong, after_advance, with_braces, declared, Limits, Declares, NoMore, Scalar, Array, Among, Ready}
 use Rattle.procs_parser.specs.Prelude.{HasNoHiddenName, SpellsBlock, Ends, SpellsParameter, AScalar, AnArray, SpellsParameters, LastOne, Another, Parameters, NoParameter, SomeParameters, Locals, NoLocal, Local, Procedures, NoProcedure, AProcedure, SpellsFile, AFile, Between, Naming, Doing, NoneYet, OneMore, Behind, AllRead, LocalFresh, Outside, InProcedure, is_hidden_token, taken, advanced, program_of, ParserState}
 use Rattle.procs_parser.proofs.BlocksSpelled.{block_again}
 use Rattle.procs_parser.proofs.StatementsOfFiles.{parsed, body_read}
-use Rattle.src_lexer.specs.declared.tokens.TokenKind.TheVariants as kind
+use Rattle.src_lexer.specs.declared.tokens.Kind.TheVariants as kind
 use Rattle.src_parser.specs.Tokenwise as tokenwise
 
 -- tokens that don't begin with a label
-abbrev NoLabel : List TokenKind → Type 0
+abbrev NoLabel : List Kind → Type 0
 NoLabel [] = Unit {0}
 NoLabel (kind.Public ∷ ks) = ⊥
 NoLabel (kind.Secret ∷ ks) = ⊥
 NoLabel (k ∷ ks) = Unit {0}
 
-writes_no_label : {most : Limits} {depth : ℕ} {tokens : List TokenKind} {block : Block}
-    → SpellsBlock most depth tokens block → (more : List TokenKind) → NoLabel more → NoLabel (tokens ++ more)
+writes_no_label : {most : Limits} {depth : ℕ} {tokens : List Kind} {block : Block}
+    → SpellsBlock most depth tokens block → (more : List Kind) → NoLabel more → NoLabel (tokens ++ more)
 writes_no_label Ends more h = h
 writes_no_label _ more h = tt
 
-procedures_no_label : {most : Limits} {tokens : List TokenKind} {ps : List Procedure}
-    → Procedures most tokens ps → (more : List TokenKind) → NoLabel more → NoLabel (tokens ++ more)
+procedures_no_label : {most : Limits} {tokens : List Kind} {ps : List Procedure}
+    → Procedures most tokens ps → (more : List Kind) → NoLabel more → NoLabel (tokens ++ more)
 procedures_no_label NoProcedure more h = h
 procedures_no_label _ more h = tt
 
 -- before the first statement of a file, and of a procedure
-file_starts : (most : Limits) (decls : List Decl) (tokens : List TokenKind) → NoLabel tokens
+file_starts : (most : Limits) (decls : List Decl) (tokens : List Kind) → NoLabel tokens
     → parsed most (Between decls) tokens ≡ parsed most (Doing (Outside decls []) (Among [] [] Ready)) tokens
 file_starts most decls [] h = refl
 file_starts most decls (kind.Public ∷ ks) h = absurd h
@@ -40,7 +40,7 @@ file_starts most decls (kind.Secret ∷ ks) h = absurd h
 file_starts most decls (_ ∷ ks) h = refl
 
 body_starts : (most : Limits) (decls : List Decl) (procedures : List Procedure) (name : List ℕ) (ps : List Parameter)
-    (ls : List Decl) (tokens : List TokenKind) → NoLabel tokens
+    (ls : List Decl) (tokens : List Kind) → NoLabel tokens
     → parsed most (Naming decls procedures name (LocalFresh ps ls)) tokens
     ≡ parsed most (Doing (InProcedure decls procedures name ps ls) (Among [] [] Ready)) tokens
 body_starts most decls procedures name ps ls [] h = refl
@@ -49,8 +49,8 @@ body_starts most decls procedures name ps ls (kind.Secret ∷ ks) h = absurd h
 body_starts most decls procedures name ps ls (_ ∷ ks) h = refl
 
 -- declarations are read as their list
-heads : (most : Limits) {front : List TokenKind} {decls : List Decl}
-    → Declares front decls → (before : List Decl) (back : List TokenKind)
+heads : (most : Limits) {front : List Kind} {decls : List Decl}
+    → Declares front decls → (before : List Decl) (back : List Kind)
     → parsed most (Between before) (front ++ back) ≡ parsed most (Between (before ++ decls)) back
 heads most NoMore before back = ap (λ z. parsed most (Between z) back) (sym (append-nil before))
 heads most (Scalar {decls = decls} Public name rest) before back =
@@ -67,18 +67,18 @@ heads most (Array {decls = decls} Secret name n rest) before back =
     ∙ ap (λ z. parsed most (Between z) back) (append_assoc before (declared Secret name (Some n) ∷ []) decls)
 
 -- parameters are read as their list
-parameter_parsed : (most : Limits) {ts : List TokenKind} {p : Parameter} → SpellsParameter ts p
+parameter_parsed : (most : Limits) {ts : List Kind} {p : Parameter} → SpellsParameter ts p
     → (decls : List Decl) (procedures : List Procedure) (name : List ℕ) (before : List Parameter)
-    (ks : List TokenKind)
+    (ks : List Kind)
     → parsed most (Naming decls procedures name (OneMore before)) (ts ++ ks)
     ≡ parsed most (Naming decls procedures name (Behind (before ++ p ∷ []))) ks
 parameter_parsed most (AScalar Public x) decls procedures name before ks = refl
 parameter_parsed most (AScalar Secret x) decls procedures name before ks = refl
 parameter_parsed most (AnArray x) decls procedures name before ks = refl
 
-parameters_parsed : (most : Limits) {ts : List TokenKind} {ps : List Parameter} → SpellsParameters ts ps
+parameters_parsed : (most : Limits) {ts : List Kind} {ps : List Parameter} → SpellsParameters ts ps
     → (decls : List Decl) (procedures : List Procedure) (name : List ℕ) (before : List Parameter)
-    (ks : List TokenKind)
+    (ks : List Kind)
     → parsed most (Naming decls procedures name (OneMore before)) (ts ++ kind.RParen ∷ ks)
     ≡ parsed most (Naming decls procedures name (AllRead (before ++ ps))) ks
 parameters_parsed most (LastOne s) decls procedures name before ks =
@@ -90,8 +90,8 @@ parameters_parsed most (Another {tokens = tokens} {rest = rest} {p = p} {ps = ps
     ∙ (parameters_parsed most more decls procedures name (before ++ p ∷ []) ks
     ∙ ap (λ z. parsed most (Naming decls procedures name (AllRead z)) ks) (append_assoc before (p ∷ []) ps)))
 
-parameters_start : (most : Limits) {ts : List TokenKind} {ps : List Parameter} → SpellsParameters ts ps
-    → (decls : List Decl) (procedures : List Procedure) (name : List ℕ) (ks : List TokenKind)
+parameters_start : (most : Limits) {ts : List Kind} {ps : List Parameter} → SpellsParameters ts ps
+    → (decls : List Decl) (procedures : List Procedure) (name : List ℕ) (ks : List Kind)
     → parsed most (Naming decls procedures name NoneYet) (ts ++ ks)
     ≡ parsed most (Naming decls procedures name (OneMore [])) (ts ++ ks)
 parameters_start most (LastOne (AScalar Public x)) decls procedures name ks = refl
@@ -101,8 +101,8 @@ parameters_start most (Another (AScalar Public x) more) decls procedures name ks
 parameters_start most (Another (AScalar Secret x) more) decls procedures name ks = refl
 parameters_start most (Another (AnArray x) more) decls procedures name ks = refl
 
-all_parameters : (most : Limits) {ts : List TokenKind} {ps : List Parameter} → Parameters ts ps
-    → (decls : List Decl) (procedures : List Procedure) (name : List ℕ) (ks : List TokenKind)
+all_parameters : (most : Limits) {ts : List Kind} {ps : List Parameter} → Parameters ts ps
+    → (decls : List Decl) (procedures : List Procedure) (name : List ℕ) (ks : List Kind)
     → parsed most (Naming decls procedures name NoneYet) (ts ++ kind.RParen ∷ ks)
     ≡ parsed most (Naming decls procedures name (AllRead ps)) ks
 all_parameters most NoParameter decls procedures name ks = refl
@@ -111,9 +111,9 @@ all_parameters most (SomeParameters s) decls procedures name ks =
     ∙ parameters_parsed most s decls procedures name [] ks
 
 -- locals are read as their list
-locals_parsed : (most : Limits) {ts : List TokenKind} {ls : List Decl} → Locals ts ls
+locals_parsed : (most : Limits) {ts : List Kind} {ls : List Decl} → Locals ts ls
     → (decls : List Decl) (procedures : List Procedure) (name : List ℕ) (ps : List Parameter) (before : List Decl)
-    (ks : List TokenKind)
+    (ks : List Kind)
     → parsed most (Naming decls procedures name (LocalFresh ps before)) (ts ++ ks)
     ≡ parsed most (Naming decls procedures name (LocalFresh ps (before ++ ls))) ks
 locals_parsed most NoLocal decls procedures name ps before ks =
@@ -129,7 +129,7 @@ locals_parsed most (Local {decls = ls} Secret x rest) decls procedures name ps b
 
 -- the brace of a procedure
 opens : (most : Limits) (decls : List Decl) (procedures : List Procedure) (name : List ℕ) (ps : List Parameter)
-    (ks : List TokenKind) → 0 < most.braces
+    (ks : List Kind) → 0 < most.braces
     → parsed most (Naming decls procedures name (AllRead ps)) (kind.LBrace ∷ ks)
     ≡ parsed most (Naming decls procedures name (LocalFresh ps [])) ks
 opens most decls procedures name ps ks room =
@@ -138,8 +138,8 @@ opens most decls procedures name ps ks room =
     (lt-ltb 0 most.braces room)
 
 -- procedures are read as their list
-procedures_parsed : (most : Limits) {ts : List TokenKind} {procedures : List Procedure}
-    → Procedures most ts procedures → (decls : List Decl) (before : List Procedure) (ks : List TokenKind)
+procedures_parsed : (most : Limits) {ts : List Kind} {procedures : List Procedure}
+    → Procedures most ts procedures → (decls : List Decl) (before : List Procedure) (ks : List Kind)
     → parsed most (Doing (Outside decls before) (Among [] [] Ready)) (ts ++ ks)
     ≡ parsed most (Doing (Outside decls (before ++ procedures)) (Among [] [] Ready)) ks
 procedures_parsed most NoProcedure decls before ks =
@@ -166,7 +166,7 @@ procedures_parsed most (AProcedure {ps = ps} {ls = ls} {body = body} {rest = res
     (append_assoc before (record { name = name; parameters = parameters; locals = locals; body = block } ∷ [])
     others))))))))
 
-file_parsed : {most : Limits} {tokens : List TokenKind} {f : File} → SpellsFile most tokens f
+file_parsed : {most : Limits} {tokens : List Kind} {f : File} → SpellsFile most tokens f
     → parsed most (Between []) tokens ≡ Some f
 file_parsed {most} (AFile {front = front} {middle = middle} {back = back} {decls = decls} {procedures = procedures}
     {body = body} shown d p w) =
@@ -183,22 +183,22 @@ pub shown_kind : (b : Bool) (t : Advance ParserState) → b ≡ false → (if b 
 shown_kind true t e = absurd (cc)
 shown_kind false t e = refl
 
-kind_shown : (k : TokenKind) (ks : List TokenKind) → HasNoHiddenName (k ∷ ks) → is_hidden_token k ≡ false
+kind_shown : (k : Kind) (ks : List Kind) → HasNoHiddenName (k ∷ ks) → is_hidden_token k ≡ false
 kind_shown (kind.Word name) ks s = s.0
 kind_shown _ ks s = refl
 
-pub rest_shown : (k : TokenKind) (ks : List TokenKind) → HasNoHiddenName (k ∷ ks) → HasNoHiddenName ks
+pub rest_shown : (k : Kind) (ks : List Kind) → HasNoHiddenName (k ∷ ks) → HasNoHiddenName ks
 rest_shown (kind.Word name) ks s = s.1
 rest_shown _ ks s = s
 
-all_taken : (most : Limits) (ks : List TokenKind) (t : Advance ParserState)
+all_taken : (most : Limits) (ks : List Kind) (t : Advance ParserState)
     → ((next : ParserState) → tokenwise.parsed taken program_of most next ks ≡ parsed most next ks)
     → after_advance t (λ next. tokenwise.parsed taken program_of most next ks)
     ≡ after_advance t (λ next. parsed most next ks)
 all_taken most ks (Goes next) rest = rest next
 all_taken most ks _ rest = refl
 
-taken_all : (most : Limits) (tokens : List TokenKind) (state : ParserState) → HasNoHiddenName tokens
+taken_all : (most : Limits) (tokens : List Kind) (state : ParserState) → HasNoHiddenName tokens
     → tokenwise.parsed taken program_of most state tokens ≡ parsed most state tokens
 taken_all most [] state s = refl
 taken_all most (k ∷ ks) state s =
@@ -206,10 +206,10 @@ taken_all most (k ∷ ks) state s =
     (shown_kind (is_hidden_token k) (advanced most state k) (kind_shown k ks s))
     ∙ all_taken most ks (advanced most state k) (λ next. taken_all most ks next (rest_shown k ks s))
 
-file_shown : {most : Limits} {tokens : List TokenKind} {f : File} → SpellsFile most tokens f → HasNoHiddenName tokens
+file_shown : {most : Limits} {tokens : List Kind} {f : File} → SpellsFile most tokens f → HasNoHiddenName tokens
 file_shown (AFile shown d p w) = shown
 
 -- a file's tokens lead to the file
-pub file_read : {most : Limits} {tokens : List TokenKind} {f : File} → SpellsFile most tokens f
+pub file_read : {most : Limits} {tokens : List Kind} {f : File} → SpellsFile most tokens f
     → tokenwise.parsed taken program_of most (Between []) tokens ≡ Some f
 file_read {most} {tokens} s = taken_all most tokens (Between []) (file_shown s) ∙ file_parsed s

@@ -1,7 +1,7 @@
 -- What a token does depends on the limits in one way only: it is read where there is room.
 use Rattle.std.proofs.Common.{◌≢◌, ℕ, Bool, true, false, List, [], Option, Some, None}
 use Rattle.std.specs.Prelude.{bytes_eq, if◌then◌else◌}
-use Rattle.src_lexer.specs.declared.tokens.TokenKind.{TokenKind}
+use Rattle.src_lexer.specs.declared.tokens.Kind.{Kind}
 use Rattle.src_tree.specs.declared.trees.Decl.{Decl}
 use Rattle.src_procs.specs.Prelude.{Statement, Parameter, Procedure}
 use Rattle.procs_parser.specs.Prelude.{proc_word, ParserState, Between, Declaring, Doing, Calling, Naming, Front, Outside, InProcedure, HeadPhase, Opening, NoneYet, OneMore, ScalarLabelled, ScalarTyped, ArrayTyped, ArrayTitled, ArrayClosing, Behind, AllRead, LocalFresh, LocalLabelled, LocalTyped, LocalTitled, front_depth, with_calls, performs, ending, brace_next, target_of, bracket_next, opening, word_next, statement_next, with_call, between, parameter_begins, names_next, is_hidden_token, taken, head_depth, with_heading, advanced, open_braces}
@@ -10,9 +10,9 @@ use Rattle.src_parser.proofs.Tokenwise.{Shape}
 use Rattle.src_parser.proofs.Rooms.{constant, wrong_not_much, brace_room, mapped_shape, heading_not}
 use Rattle.src_parser.proofs.StatementRooms.{statements_shape}
 use Rattle.procs_parser.proofs.CallLimits.{call_shape}
-use Rattle.src_lexer.specs.declared.tokens.TokenKind.TheVariants as kind
+use Rattle.src_lexer.specs.declared.tokens.Kind.TheVariants as kind
 
-performs_shape : (front : Front) (blocks : Blocks Statement) (k : TokenKind)
+performs_shape : (front : Front) (blocks : Blocks Statement) (k : Kind)
     → Shape ParserState k (depth_of (front_depth front) blocks) (λ most. performs most front blocks k)
 performs_shape front blocks k = mapped_shape (Doing front) (statements_shape with_calls (front_depth front) blocks k)
 
@@ -43,7 +43,7 @@ word_shape front outer here phase other (Some name) =
     constant _ (opening_not front outer here (bytes_eq name proc_word) other)
 word_shape front outer here phase other None = performs_shape front (Among outer here phase) (kind.Word other)
 
-statement_shape : (front : Front) (blocks : Blocks Statement) (k : TokenKind)
+statement_shape : (front : Front) (blocks : Blocks Statement) (k : Kind)
     → Shape ParserState k (depth_of (front_depth front) blocks) (λ most. statement_next most front blocks k)
 statement_shape front (Among outer here phase) kind.LParen = bracket_shape front outer here phase (target_of phase)
 statement_shape front (Among outer here phase) (kind.Word other) =
@@ -52,12 +52,12 @@ statement_shape front (Among outer here phase) kind.RBrace =
     brace_shape front (Among outer here phase) (is_complete (Among outer here phase))
 statement_shape front (Among outer here phase) k = performs_shape front (Among outer here phase) k
 
-between_shape : (decls : List Decl) (k : TokenKind) → Shape ParserState k 0 (λ most. between most decls k)
+between_shape : (decls : List Decl) (k : Kind) → Shape ParserState k 0 (λ most. between most decls k)
 between_shape decls kind.Public = constant _ (λ e. absurd (cc))
 between_shape decls kind.Secret = constant _ (λ e. absurd (cc))
 between_shape decls k = statement_shape (Outside decls []) (Among [] [] Ready) k
 
-parameter_not : (decls : List Decl) (procedures : List Procedure) (name : List ℕ) (ps : List Parameter) (k : TokenKind)
+parameter_not : (decls : List Decl) (procedures : List Procedure) (name : List ℕ) (ps : List Parameter) (k : Kind)
     → parameter_begins decls procedures name ps k ≢ TooMuch
 parameter_not decls procedures name ps kind.Public e = absurd (cc)
 parameter_not decls procedures name ps kind.Secret e = absurd (cc)
@@ -65,22 +65,22 @@ parameter_not decls procedures name ps kind.Int e = absurd (cc)
 parameter_not decls procedures name ps _ e = absurd (cc)
 
 parameter_shape : (decls : List Decl) (procedures : List Procedure) (name : List ℕ) (ps : List Parameter)
-    (k : TokenKind) → Shape ParserState k 0 (λ most. parameter_begins decls procedures name ps k)
+    (k : Kind) → Shape ParserState k 0 (λ most. parameter_begins decls procedures name ps k)
 parameter_shape decls procedures name ps k = constant _ (parameter_not decls procedures name ps k)
 
-first_shape : (decls : List Decl) (procedures : List Procedure) (name : List ℕ) (k : TokenKind)
+first_shape : (decls : List Decl) (procedures : List Procedure) (name : List ℕ) (k : Kind)
     → Shape ParserState k 0 (λ most. names_next most decls procedures name NoneYet k)
 first_shape decls procedures name kind.RParen = constant _ (λ e. absurd (cc))
 first_shape decls procedures name k = parameter_shape decls procedures name [] k
 
 local_shape : (decls : List Decl) (procedures : List Procedure) (name : List ℕ) (ps : List Parameter) (ls : List Decl)
-    (k : TokenKind)
+    (k : Kind)
     → Shape ParserState k 1 (λ most. names_next most decls procedures name (LocalFresh ps ls) k)
 local_shape decls procedures name ps ls kind.Public = constant _ (λ e. absurd (cc))
 local_shape decls procedures name ps ls kind.Secret = constant _ (λ e. absurd (cc))
 local_shape decls procedures name ps ls k = statement_shape (InProcedure decls procedures name ps ls) (Among [] [] Ready) k
 
-names_shape : (decls : List Decl) (procedures : List Procedure) (name : List ℕ) (phase : HeadPhase) (k : TokenKind)
+names_shape : (decls : List Decl) (procedures : List Procedure) (name : List ℕ) (phase : HeadPhase) (k : Kind)
     → Shape ParserState k (head_depth phase) (λ most. names_next most decls procedures name phase k)
 names_shape decls procedures name Opening kind.LParen = constant _ (λ e. absurd (cc))
 names_shape decls procedures name Opening _ = constant Wrong wrong_not_much
@@ -109,7 +109,7 @@ names_shape decls procedures name (LocalTyped ps ls label) _ = constant Wrong wr
 names_shape decls procedures name (LocalTitled ps ls label x) kind.Semi = constant _ (λ e. absurd (cc))
 names_shape decls procedures name (LocalTitled ps ls label x) _ = constant Wrong wrong_not_much
 
-plain_shape : (state : ParserState) (k : TokenKind)
+plain_shape : (state : ParserState) (k : Kind)
     → Shape ParserState k (open_braces state) (λ most. advanced most state k)
 plain_shape (Between decls) k = between_shape decls k
 plain_shape (Declaring decls heading) k =
@@ -119,10 +119,10 @@ plain_shape (Doing front blocks) k = statement_shape front blocks k
 plain_shape (Calling front outer here name call) k =
     mapped_shape (with_call front outer here name) (call_shape call k (depth_in (front_depth front) outer))
 
-shown_shape : (b : Bool) (state : ParserState) (k : TokenKind)
+shown_shape : (b : Bool) (state : ParserState) (k : Kind)
     → Shape ParserState k (open_braces state) (λ most. if b then Wrong else advanced most state k)
 shown_shape true state k = constant Wrong wrong_not_much
 shown_shape false state k = plain_shape state k
 
-pub shape : (state : ParserState) (k : TokenKind) → Shape ParserState k (open_braces state) (λ most. taken most state k)
+pub shape : (state : ParserState) (k : Kind) → Shape ParserState k (open_braces state) (λ most. taken most state k)
 shape state k = shown_shape (is_hidden_token k) state k

@@ -1,6 +1,6 @@
 -- The statements of a file by the grammar are read as these statements.
 use Rattle.std.proofs.Common.{◌≡◌, ℕ, ◌+◌, ◌≤◌, Bool, true, false, List, [], ◌∷◌, ◌++◌, Option, refl, sym, ap, ◌∙◌, subst, append_assoc, arith}
-use Rattle.src_lexer.specs.declared.tokens.TokenKind.{TokenKind}
+use Rattle.src_lexer.specs.declared.tokens.Kind.{Kind}
 use Rattle.src_tree.specs.Prelude.{Tree, Test}
 use Rattle.src_procs.specs.Prelude.{Statement, Block, File}
 use Rattle.src_parser.specs.Prelude.{Limits, operators, SpellsTree, Joined, Reading, At, Wanted, reads, Asked, Inside, Target, in_expression, Outer, Phase, Ready, MayElse, InPart, Blocks, Among, chosen, with_part, performed, is_complete, Goes, after_advance, mapped}
@@ -10,10 +10,10 @@ use Rattle.src_parser.proofs.StatementsRead.{NoElse, StatementRuns, settled_kind
 use Rattle.procs_parser.specs.Prelude.{Opened, Argument, Called, InCall, in_argument, SpellsTrees, Last, Before, NoArgument, Given, operators_of, SpellsBlock, ParserState, Doing, Calling, Front, front_depth, with_calls, brace_next, bracket_next, word_next, target_of, statement_next, with_call, file_at, program_of, advanced}
 use Rattle.procs_parser.proofs.BlocksSpelled.{statements_of, block_spelled}
 use Rattle.procs_parser.proofs.CallTokens.{IsCall, ACall}
-use Rattle.src_lexer.specs.declared.tokens.TokenKind.TheVariants as kind
+use Rattle.src_lexer.specs.declared.tokens.Kind.TheVariants as kind
 use Rattle.src_parser.specs.Tokenwise as tokenwise
 
-abbrev pub parsed : Limits → ParserState → List TokenKind → Option File
+abbrev pub parsed : Limits → ParserState → List Kind → Option File
 parsed = tokenwise.parsed advanced program_of
 
 -- a token that a statement other than a call goes on with is read so
@@ -44,7 +44,7 @@ brace_goes : (most : Limits) (front : Front) (x y : Blocks Statement) (b : Bool)
 brace_goes most front x y true is e = absurd (complete_ends most (front_depth front) x y is e)
 brace_goes most front x y false is e = ap (mapped (Doing front)) e
 
-statement_goes : (most : Limits) (front : Front) (x y : Blocks Statement) (k : TokenKind)
+statement_goes : (most : Limits) (front : Front) (x y : Blocks Statement) (k : Kind)
     → performed with_calls most (front_depth front) x k ≡ Goes y → statement_next most front x k ≡ Goes (Doing front y)
 statement_goes most front (Among outer here phase) y kind.LParen e = bracket_goes most front outer here phase y e
 statement_goes most front (Among outer here phase) y (kind.Word other) e =
@@ -54,7 +54,7 @@ statement_goes most front (Among outer here phase) y kind.RBrace e =
 statement_goes most front (Among outer here phase) y _ e = ap (mapped (Doing front)) e
 
 settled_next : (most : Limits) (front : Front) (outer : List (Outer Statement)) (here : List Statement) (test : Test)
-    (first : List Statement) (k : TokenKind) (ks : List TokenKind) → NoElse (k ∷ ks)
+    (first : List Statement) (k : Kind) (ks : List Kind) → NoElse (k ∷ ks)
     → statement_next most front (Among outer here (MayElse test first)) k
     ≡ statement_next most front (Among outer (chosen with_calls here test first) Ready) k
 settled_next most front [] here test first kind.RBrace ks h = refl
@@ -64,7 +64,7 @@ settled_next most front outer here test first k ks h =
     ap (mapped (Doing front)) (settled_kind with_calls outer here test first k ks h)
 
 settled : (most : Limits) (front : Front) (outer : List (Outer Statement)) (here : List Statement) (test : Test)
-    (first : List Statement) (ks : List TokenKind) → NoElse ks
+    (first : List Statement) (ks : List Kind) → NoElse ks
     → parsed most (Doing front (Among outer here (MayElse test first))) ks
     ≡ parsed most (Doing front (Among outer (chosen with_calls here test first) Ready)) ks
 settled most front outer here test first [] h = ap (file_at front) (settled_end with_calls outer here test first)
@@ -83,25 +83,25 @@ argument_runs most front outer here name before = record {
 }
 
 -- tokens that don't begin with `)`
-abbrev NoParen : List TokenKind → Type 0
+abbrev NoParen : List Kind → Type 0
 NoParen [] = ⊥
 NoParen (kind.RParen ∷ ks) = ⊥
 NoParen (k ∷ ks) = Unit {0}
 
-tree_starts : {most depth level : ℕ} {tokens : List TokenKind} {tree : Tree} → SpellsTree most depth level tokens tree
-    → (more : List TokenKind) → NoParen (tokens ++ more)
+tree_starts : {most depth level : ℕ} {tokens : List Kind} {tree : Tree} → SpellsTree most depth level tokens tree
+    → (more : List Kind) → NoParen (tokens ++ more)
 tree_starts (Joined {left = left} {right = right} op sign below is first second) more =
     subst NoParen (sym (append_assoc left (sign ∷ right) more)) (tree_starts first (sign ∷ (right ++ more)))
 tree_starts _ more = tt
 
-trees_start : {most : ℕ} {tokens : List TokenKind} {es : List Tree} → SpellsTrees most tokens es
-    → (more : List TokenKind) → NoParen (tokens ++ more)
+trees_start : {most : ℕ} {tokens : List Kind} {es : List Tree} → SpellsTrees most tokens es
+    → (more : List Kind) → NoParen (tokens ++ more)
 trees_start (Last s) more = tree_starts s more
 trees_start (Before {tokens = tokens} {rest = rest} s others) more =
     subst NoParen (sym (append_assoc tokens (kind.Semi ∷ rest) more)) (tree_starts s (kind.Semi ∷ (rest ++ more)))
 
 opened_same : (most : Limits) (front : Front) (outer : List (Outer Statement)) (here : List Statement) (name : List ℕ)
-    (ks : List TokenKind) → NoParen ks
+    (ks : List Kind) → NoParen ks
     → parsed most (Calling front outer here name (InCall [] Opened)) ks
     ≡ parsed most (Calling front outer here name (InCall [] (Argument (At [] 0 0 Wanted)))) ks
 opened_same most front outer here name [] h = absurd h
@@ -109,9 +109,9 @@ opened_same most front outer here name (kind.RParen ∷ ks) h = absurd h
 opened_same most front outer here name (_ ∷ ks) h = refl
 
 -- arguments are read one by one
-arguments_parsed : (most : Limits) {tokens : List TokenKind} {es : List Tree} → SpellsTrees most.brackets tokens es
+arguments_parsed : (most : Limits) {tokens : List Kind} {es : List Tree} → SpellsTrees most.brackets tokens es
     → (front : Front) (outer : List (Outer Statement)) (here : List Statement) (name : List ℕ) (before : List Tree)
-    (used : ℕ) (ks : List TokenKind) → used + operators_of es ≤ most.operators
+    (used : ℕ) (ks : List Kind) → used + operators_of es ≤ most.operators
     → parsed most (Calling front outer here name (InCall before (Argument (At [] 0 used Wanted))))
     (tokens ++ kind.RParen ∷ ks)
     ≡ parsed most (Calling front outer here name (InCall (before ++ es) Called)) ks
@@ -127,8 +127,8 @@ arguments_parsed most (Before {tokens = tokens} {rest = rest} {e = e} {es = es} 
     ∙ ap (λ z. parsed most (Calling front outer here name (InCall z Called)) ks) (append_assoc before (e ∷ []) es)))
 
 -- a call is read as its statement
-call_parsed : {most : Limits} {tokens : List TokenKind} {s : Statement} → IsCall most tokens s → (front : Front)
-    (outer : List (Outer Statement)) (here : List Statement) (ks : List TokenKind)
+call_parsed : {most : Limits} {tokens : List Kind} {s : Statement} → IsCall most tokens s → (front : Front)
+    (outer : List (Outer Statement)) (here : List Statement) (ks : List Kind)
     → parsed most (Doing front (Among outer here Ready)) (tokens ++ ks)
     ≡ parsed most (Doing front (Among outer (here ++ s ∷ []) Ready)) ks
 call_parsed (ACall name NoArgument) front outer here ks = refl
@@ -138,13 +138,13 @@ call_parsed {most} (ACall {tokens = tokens} name (Given s fits)) front outer her
     (trees_start s (kind.RParen ∷ kind.Semi ∷ ks))
     ∙ arguments_parsed most s front outer here name [] 0 (kind.Semi ∷ ks) (omega arith))
 
-call_starts : {most : Limits} {tokens : List TokenKind} {s : Statement} → IsCall most tokens s → (ks : List TokenKind)
+call_starts : {most : Limits} {tokens : List Kind} {s : Statement} → IsCall most tokens s → (ks : List Kind)
     → NoElse (tokens ++ ks)
 call_starts (ACall name given) ks = tt
 
 -- a token in a part, when the part was read to another expression
 same_next : (most : Limits) (front : Front) (outer : List (Outer Statement)) (here : List Statement) (asked : Asked)
-    (x y : Reading) (k : TokenKind) → reads most x k ≡ reads most y k
+    (x y : Reading) (k : Kind) → reads most x k ≡ reads most y k
     → statement_next most front (Among outer here (InPart (Inside asked x))) k
     ≡ statement_next most front (Among outer here (InPart (Inside asked y))) k
 same_next most front [] here asked x y kind.RBrace e =
@@ -167,8 +167,8 @@ statement_runs most front = record {
 }
 
 -- the statements of a file, or of a procedure, are read as their block
-pub body_read : {most : Limits} {depth : ℕ} {tokens : List TokenKind} {block : Block}
-    → SpellsBlock most depth tokens block → (front : Front) → front_depth front ≡ depth → (more : List TokenKind)
+pub body_read : {most : Limits} {depth : ℕ} {tokens : List Kind} {block : Block}
+    → SpellsBlock most depth tokens block → (front : Front) → front_depth front ≡ depth → (more : List Kind)
     → NoElse more → parsed most (Doing front (Among [] [] Ready)) (tokens ++ more)
     ≡ parsed most (Doing front (Among [] (statements_of block) Ready)) more
 body_read {most} w front is more free =

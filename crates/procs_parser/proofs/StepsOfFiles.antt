@@ -5,7 +5,7 @@ use Rattle.std.proofs.lemmas.Slice.Eq.{bytes_eq-Decides}
 use Rattle.std.proofs.lemmas.List.{append-nil}
 use Rattle.std.proofs.lemmas.Bool.{ltb-true}
 use Rattle.gr_word.specs.declared.variables.Label.TheVariants.{Public, Secret}
-use Rattle.src_lexer.specs.declared.tokens.TokenKind.{TokenKind}
+use Rattle.src_lexer.specs.declared.tokens.Kind.{Kind}
 use Rattle.src_tree.specs.declared.trees.Decl.{Decl}
 use Rattle.src_procs.specs.Prelude.{Statement, Parameter, Procedure}
 use Rattle.procs_parser.specs.Prelude.{AScalar, AnArray, Parameters, NoParameter, SomeParameters, Locals, NoLocal, NoProcedure, proc_word, CallStep, Still, Done, call_advanced, ParserState, Between, Doing, HeadPhase, NoneYet, LocalFresh, Front, Outside, InProcedure, front_depth, with_calls, performs, ending, brace_next, target_of, bracket_next, opening, word_next, statement_next, with_call, starts, parameter_begins, names_next, between, with_heading, advanced}
@@ -19,18 +19,18 @@ use Rattle.src_parser.proofs.StatementsStanding.{Enclosed, Top, First, Second, L
 use Rattle.procs_parser.proofs.BlocksSpelled.{spelled_block}
 use Rattle.procs_parser.proofs.CallTokens.{IsCall, IsOpened, StepStands, call_steps}
 use Rattle.procs_parser.proofs.StandingFiles.{AtTop, InBody, ParametersBefore, NoneBefore, SomeBefore, head_of, Names, IsOpening, IsNoneYet, IsOneMore, IsScalarLabelled, IsScalarTyped, IsArrayTyped, IsArrayTitled, IsArrayClosing, IsBehind, IsAllRead, IsLocalFresh, IsLocalLabelled, IsLocalTyped, IsLocalTitled, one_parameter, one_local, procedure_ends, Standing, InBetween, InHeading, InHead, InStatements, InArguments}
-use Rattle.src_lexer.specs.declared.tokens.TokenKind.TheVariants as kind
+use Rattle.src_lexer.specs.declared.tokens.Kind.TheVariants as kind
 use Rattle.procs_parser.proofs.StandingFiles as files
 
-went : {most : Limits} {tokens : List TokenKind} (x y : ParserState)
+went : {most : Limits} {tokens : List Kind} (x y : ParserState)
     → Goes x ≡ Goes y → Standing most x tokens → Standing most y tokens
 went {most} {tokens} x y e s = subst (λ z. Standing most z tokens) (let f : x ≡ y = cc in f) s
 
-standing_at : {most : Limits} {x : ParserState} (ts us : List TokenKind) → ts ≡ us → Standing most x ts
+standing_at : {most : Limits} {x : ParserState} (ts us : List Kind) → ts ≡ us → Standing most x ts
     → Standing most x us
 standing_at {most} {x} ts us e s = subst (λ z. Standing most x z) e s
 
-with_room : {most : Limits} {ts : List TokenKind} (b : Bool) (x y : ParserState)
+with_room : {most : Limits} {ts : List Kind} (b : Bool) (x y : ParserState)
     → with_braces b x ≡ Goes y → (b ≡ true → Standing most x ts) → Standing most y ts
 with_room true x y e s = went x y e (s refl)
 with_room false x y e s = absurd (cc)
@@ -41,23 +41,23 @@ no_statement : {most : Limits} {outside : ℕ}
 no_statement = InBlock {ts = []} {us = []} (Top NoneLeft) IsReady
 
 -- a token of a statement that isn't a call
-doing_stands : {most : Limits} {front : Front} {ts : List TokenKind} (us : List TokenKind)
-    → files.Begun most front ts → (k : TokenKind) (x : Blocks Statement) → StatementsStand with_calls (IsCall most) most (front_depth front) x (us ++ k ∷ [])
+doing_stands : {most : Limits} {front : Front} {ts : List Kind} (us : List Kind)
+    → files.Begun most front ts → (k : Kind) (x : Blocks Statement) → StatementsStand with_calls (IsCall most) most (front_depth front) x (us ++ k ∷ [])
     → (next : ParserState) → Doing front x ≡ next → Standing most next ((ts ++ us) ++ k ∷ [])
 doing_stands {most} {ts = ts} us b k x s next e =
     subst (λ z. Standing most z ((ts ++ us) ++ k ∷ [])) e
     (standing_at _ _ (sym (append_assoc ts us (k ∷ []))) (InStatements b s))
 
-performs_stands : {most : Limits} {front : Front} {blocks : Blocks Statement} {ts us : List TokenKind}
+performs_stands : {most : Limits} {front : Front} {blocks : Blocks Statement} {ts us : List Kind}
     → files.Begun most front ts → StatementsStand with_calls (IsCall most) most (front_depth front) blocks us
-    → (k : TokenKind) (next : ParserState) → performs most front blocks k ≡ Goes next
+    → (k : Kind) (next : ParserState) → performs most front blocks k ≡ Goes next
     → Standing most next ((ts ++ us) ++ k ∷ [])
 performs_stands {most} {front} {blocks} {us = us} b s k next e =
     mapped_goes (Doing front) (performed with_calls most (front_depth front) blocks k) next e
     (λ x is at. doing_stands us b k x (statements_step s k x is) next at)
 
 -- the closing brace of a procedure
-ending_stands : {most : Limits} {front : Front} {ts us : List TokenKind} → files.Begun most front ts
+ending_stands : {most : Limits} {front : Front} {ts us : List Kind} → files.Begun most front ts
     → (o : Option (List Statement))
     → ((ss : List Statement) → o ≡ Some ss → Spelled with_calls (IsCall most) most (front_depth front) us ss)
     → (next : ParserState) → ending front o ≡ Goes next → Standing most next ((ts ++ us) ++ kind.RBrace ∷ [])
@@ -67,7 +67,7 @@ ending_stands {ts = ts} {us = us} (InBody name b p room l) (Some ss) spelled nex
     went _ next e (standing_at _ _ (append-nil _)
     (InStatements (procedure_ends (InBody name b p room l) (spelled_block (spelled ss refl))) no_statement))
 
-brace_stands : {most : Limits} {front : Front} {blocks : Blocks Statement} {ts us : List TokenKind}
+brace_stands : {most : Limits} {front : Front} {blocks : Blocks Statement} {ts us : List Kind}
     → files.Begun most front ts → StatementsStand with_calls (IsCall most) most (front_depth front) blocks us
     → (b : Bool) (next : ParserState) → brace_next most front blocks b ≡ Goes next
     → Standing most next ((ts ++ us) ++ kind.RBrace ∷ [])
@@ -76,14 +76,14 @@ brace_stands {blocks = blocks} b s true next e =
 brace_stands b s false next e = performs_stands b s kind.RBrace next e
 
 -- the name that a statement begins with is its only token
-named_tokens : {most : Limits} {depth : ℕ} {phase : Phase Statement} {us : List TokenKind}
+named_tokens : {most : Limits} {depth : ℕ} {phase : Phase Statement} {us : List Kind}
     → Stands with_calls (IsCall most) most depth phase us → (name : List ℕ) → target_of phase ≡ Some name
     → us ≡ kind.Word name ∷ []
 named_tokens (IsPart (IsTarget x)) name e = let f : x ≡ name = cc in ap (λ (z : List ℕ). kind.Word z ∷ []) f
 named_tokens _ name e = absurd (cc)
 
 bracket_stands : {most : Limits} {front : Front} {outer : List (Outer Statement)} {depth : ℕ} {here : List Statement}
-    {phase : Phase Statement} {ts us vs : List TokenKind} → files.Begun most front ts
+    {phase : Phase Statement} {ts us vs : List Kind} → files.Begun most front ts
     → Enclosed with_calls (IsCall most) most (front_depth front) outer depth here us
     → Stands with_calls (IsCall most) most depth phase vs
     → (o : Option (List ℕ)) → target_of phase ≡ o
@@ -111,7 +111,7 @@ behind_one (InProcedure decls procedures x ps ls) s here b name next e = absurd 
 
 -- a procedure begins
 opening_stands : {most : Limits} {front : Front} {outer : List (Outer Statement)} {depth : ℕ} {here : List Statement}
-    {ts us : List TokenKind} (name other : List ℕ) → files.Begun most front ts
+    {ts us : List Kind} (name other : List ℕ) → files.Begun most front ts
     → Enclosed with_calls (IsCall most) most (front_depth front) outer depth here us
     → (b : Bool) → bytes_eq name proc_word ≡ b → (next : ParserState)
     → opening front outer here b other ≡ Goes next
@@ -133,7 +133,7 @@ opening_stands {front = front} {here = here} name other b (Looped o g room w) c 
     absurd (in_block front _ _ here c other next e)
 
 word_stands : {most : Limits} {front : Front} {outer : List (Outer Statement)} {depth : ℕ} {here : List Statement}
-    {phase : Phase Statement} {ts us vs : List TokenKind} (other : List ℕ) → files.Begun most front ts
+    {phase : Phase Statement} {ts us vs : List Kind} (other : List ℕ) → files.Begun most front ts
     → Enclosed with_calls (IsCall most) most (front_depth front) outer depth here us
     → Stands with_calls (IsCall most) most depth phase vs
     → (o : Option (List ℕ)) → target_of phase ≡ o
@@ -145,9 +145,9 @@ word_stands {ts = ts} {us = us} other b o s (Some name) is next e =
 word_stands other b o s None is next e = performs_stands b (InBlock o s) (kind.Word other) next e
 
 -- a token of a statement
-statement_stands : {most : Limits} {front : Front} {blocks : Blocks Statement} {ts us : List TokenKind}
+statement_stands : {most : Limits} {front : Front} {blocks : Blocks Statement} {ts us : List Kind}
     → files.Begun most front ts → StatementsStand with_calls (IsCall most) most (front_depth front) blocks us
-    → (k : TokenKind) (next : ParserState) → statement_next most front blocks k ≡ Goes next
+    → (k : Kind) (next : ParserState) → statement_next most front blocks k ≡ Goes next
     → Standing most next ((ts ++ us) ++ k ∷ [])
 statement_stands b (InBlock {phase = phase} o s) kind.LParen next e =
     bracket_stands b o s (target_of phase) refl next e
@@ -157,14 +157,14 @@ statement_stands b (InBlock {outer = outer} {here = here} {phase = phase} o s) k
     brace_stands b (InBlock o s) (is_complete (Among outer here phase)) next e
 statement_stands b (InBlock o s) k next e = performs_stands b (InBlock o s) k next e
 
-starts_stands : {most : Limits} {front : Front} {ts : List TokenKind} → files.Begun most front ts
-    → (k : TokenKind) (next : ParserState) → starts most front k ≡ Goes next → Standing most next (ts ++ k ∷ [])
+starts_stands : {most : Limits} {front : Front} {ts : List Kind} → files.Begun most front ts
+    → (k : Kind) (next : ParserState) → starts most front k ≡ Goes next → Standing most next (ts ++ k ∷ [])
 starts_stands {ts = ts} b k next e =
     standing_at ((ts ++ []) ++ k ∷ []) _ (ap (λ z. z ++ k ∷ []) (append-nil ts)) (statement_stands b no_statement k next e)
 
 -- a token of a call
 call_stands : {most : Limits} {front : Front} {outer : List (Outer Statement)} {depth : ℕ} {here : List Statement}
-    {ts us : List TokenKind} (name : List ℕ) (vs : List TokenKind) → files.Begun most front ts
+    {ts us : List Kind} (name : List ℕ) (vs : List Kind) → files.Begun most front ts
     → Enclosed with_calls (IsCall most) most (front_depth front) outer depth here us
     → (step : CallStep) → StepStands most step vs
     → Standing most (with_call front outer here name step) (ts ++ (us ++ (kind.Word name ∷ kind.LParen ∷ vs)))
@@ -175,17 +175,17 @@ call_stands {ts = ts} {us = us} name vs b o (Done es) s =
     (spelled_at _ _ (append-nil (kind.Word name ∷ kind.LParen ∷ vs)) (Adds (s name) NoneLeft))) IsReady))
 
 call_token : {most : Limits} {front : Front} {outer : List (Outer Statement)} {depth : ℕ} {here : List Statement}
-    {ts us : List TokenKind} (name : List ℕ) (vs : List TokenKind) → files.Begun most front ts
+    {ts us : List Kind} (name : List ℕ) (vs : List Kind) → files.Begun most front ts
     → Enclosed with_calls (IsCall most) most (front_depth front) outer depth here us
-    → (k : TokenKind) (step : CallStep) → StepStands most step (vs ++ k ∷ []) → (next : ParserState)
+    → (k : Kind) (step : CallStep) → StepStands most step (vs ++ k ∷ []) → (next : ParserState)
     → with_call front outer here name step ≡ next
     → Standing most next ((ts ++ (us ++ (kind.Word name ∷ kind.LParen ∷ vs))) ++ k ∷ [])
 call_token {most} {ts = ts} {us = us} name vs b o k step s next e =
     subst (λ z. Standing most z ((ts ++ (us ++ (kind.Word name ∷ kind.LParen ∷ vs))) ++ k ∷ [])) e
     (standing_at _ _ (simp append_assoc refl) (call_stands name (vs ++ k ∷ []) b o step s))
 
-between_stands : {most : Limits} {decls : List Decl} {first : List TokenKind} → Declares first decls
-    → (k : TokenKind) (next : ParserState) → between most decls k ≡ Goes next → Standing most next (first ++ k ∷ [])
+between_stands : {most : Limits} {decls : List Decl} {first : List Kind} → Declares first decls
+    → (k : Kind) (next : ParserState) → between most decls k ≡ Goes next → Standing most next (first ++ k ∷ [])
 between_stands d kind.Public next e = went _ next e (InHeading d (IsLabelled Public))
 between_stands d kind.Secret next e = went _ next e (InHeading d (IsLabelled Secret))
 between_stands {first = first} d k next e =
@@ -193,24 +193,24 @@ between_stands {first = first} d k next e =
     (starts_stands (AtTop d NoProcedure) k next e)
 
 -- a declaration that is begun, or one more
-declaration_stands : {most : Limits} {decls : List Decl} {first : List TokenKind} (us : List TokenKind)
+declaration_stands : {most : Limits} {decls : List Decl} {first : List Kind} (us : List Kind)
     → Declares first decls
     → (s : HeadingState) → HeadingStands s us → Standing most (with_heading decls s) (first ++ us)
 declaration_stands us d (Begun heading) h = InHeading d h
 declaration_stands us d (Declared decl) h = InBetween (declares_both d h)
 
-heading_stands : {most : Limits} {decls : List Decl} {first : List TokenKind} (us : List TokenKind)
+heading_stands : {most : Limits} {decls : List Decl} {first : List Kind} (us : List Kind)
     → Declares first decls
-    → (k : TokenKind) (s : HeadingState) → HeadingStands s (us ++ k ∷ []) → (next : ParserState)
+    → (k : Kind) (s : HeadingState) → HeadingStands s (us ++ k ∷ []) → (next : ParserState)
     → with_heading decls s ≡ next → Standing most next ((first ++ us) ++ k ∷ [])
 heading_stands {most} {first = first} us d k s h next e =
     subst (λ z. Standing most z ((first ++ us) ++ k ∷ [])) e
     (standing_at _ _ (sym (append_assoc first us (k ∷ []))) (declaration_stands (us ++ k ∷ []) d s h))
 
 parameter_stands : {most : Limits} {decls : List Decl} {procedures : List Procedure} (name : List ℕ)
-    {before ts : List TokenKind} {ps : List Parameter} → files.Begun most (Outside decls procedures) before
+    {before ts : List Kind} {ps : List Parameter} → files.Begun most (Outside decls procedures) before
     → ParametersBefore ts ps
-    → (k : TokenKind) (next : ParserState) → parameter_begins decls procedures name ps k ≡ Goes next
+    → (k : Kind) (next : ParserState) → parameter_begins decls procedures name ps k ≡ Goes next
     → Standing most next ((before ++ head_of name ts) ++ k ∷ [])
 parameter_stands name {before = before} {ts = ts} b p kind.Public next e =
     went _ next e (standing_at _ _ (simp append_assoc refl) (InHead b (IsScalarLabelled Public p)))
@@ -221,17 +221,17 @@ parameter_stands name {before = before} {ts = ts} b p kind.Int next e =
 parameter_stands name b p _ next e = absurd (cc)
 
 first_stands : {most : Limits} {decls : List Decl} {procedures : List Procedure} (name : List ℕ)
-    {before : List TokenKind} → files.Begun most (Outside decls procedures) before
-    → (k : TokenKind) (next : ParserState) → names_next most decls procedures name NoneYet k ≡ Goes next
+    {before : List Kind} → files.Begun most (Outside decls procedures) before
+    → (k : Kind) (next : ParserState) → names_next most decls procedures name NoneYet k ≡ Goes next
     → Standing most next ((before ++ head_of name []) ++ k ∷ [])
 first_stands name {before = before} b kind.RParen next e =
     went _ next e (standing_at _ _ (simp append_assoc refl) (InHead b (IsAllRead NoParameter)))
 first_stands name b k next e = parameter_stands name b NoneBefore k next e
 
 local_stands : {most : Limits} {decls : List Decl} {procedures : List Procedure} (name : List ℕ)
-    {before ts us : List TokenKind} {ps : List Parameter} {ls : List Decl}
+    {before ts us : List Kind} {ps : List Parameter} {ls : List Decl}
     → files.Begun most (Outside decls procedures) before → Parameters ts ps → 0 < most.braces → Locals us ls
-    → (k : TokenKind) (next : ParserState) → names_next most decls procedures name (LocalFresh ps ls) k ≡ Goes next
+    → (k : Kind) (next : ParserState) → names_next most decls procedures name (LocalFresh ps ls) k ≡ Goes next
     → Standing most next ((before ++ head_of name (ts ++ kind.RParen ∷ kind.LBrace ∷ us)) ++ k ∷ [])
 local_stands name {before = before} {ts = ts} {us = us} b p room l kind.Public next e =
     went _ next e (standing_at _ _ (simp append_assoc refl) (InHead b (IsLocalLabelled Public p room l)))
@@ -240,8 +240,8 @@ local_stands name {before = before} {ts = ts} {us = us} b p room l kind.Secret n
 local_stands name b p room l k next e = starts_stands (InBody name b p room l) k next e
 
 names_stand : {most : Limits} {decls : List Decl} {procedures : List Procedure} {name : List ℕ} {phase : HeadPhase}
-    {before us : List TokenKind} → files.Begun most (Outside decls procedures) before → Names most name phase us
-    → (k : TokenKind) (next : ParserState) → names_next most decls procedures name phase k ≡ Goes next
+    {before us : List Kind} → files.Begun most (Outside decls procedures) before → Names most name phase us
+    → (k : Kind) (next : ParserState) → names_next most decls procedures name phase k ≡ Goes next
     → Standing most next ((before ++ us) ++ k ∷ [])
 names_stand {before = before} b IsOpening kind.LParen next e =
     went _ next e (standing_at _ _ (simp append_assoc refl) (InHead b IsNoneYet))
@@ -286,8 +286,8 @@ names_stand {before = before} b (IsLocalTitled {ts = ts} {us = us} label x p roo
 names_stand b (IsLocalTitled label x p room l) _ next e = absurd (cc)
 
 -- a token continues a file
-pub steps : {most : Limits} {state : ParserState} {tokens : List TokenKind} → Standing most state tokens
-    → (k : TokenKind) (next : ParserState) → advanced most state k ≡ Goes next → Standing most next (tokens ++ k ∷ [])
+pub steps : {most : Limits} {state : ParserState} {tokens : List Kind} → Standing most state tokens
+    → (k : Kind) (next : ParserState) → advanced most state k ≡ Goes next → Standing most next (tokens ++ k ∷ [])
 steps (InBetween d) k next e = between_stands d k next e
 steps (InHeading {decls = decls} {heading = heading} d h) k next e =
     mapped_goes (with_heading decls) (heading_advanced heading k) next e

@@ -2,7 +2,7 @@
 use Rattle.std.specs.Prelude.{ℕ, ◌+◌, nat_lt, Bool, true, false, List, [], ◌∷◌, ◌++◌, bytes_eq, if◌then◌else◌, Option, Some, None}
 use Rattle.gr_word.specs.declared.variables.Label.{Label}
 use Rattle.gr_word.specs.declared.variables.Label.TheVariants.{Public, Secret}
-use Rattle.src_lexer.specs.declared.tokens.TokenKind.{TokenKind}
+use Rattle.src_lexer.specs.declared.tokens.Kind.{Kind}
 use Rattle.src_tree.specs.declared.trees.Decl.{Decl}
 use Rattle.src_procs.specs.Trees.{Statement, SetVariable, SetElement, Choice, Loop, Call, Nothing, Parameter, OfValue, OfVariable, Procedure, File}
 use Rattle.src_procs.specs.Inlined.{is_hidden}
@@ -14,7 +14,7 @@ use Rattle.src_parser.specs.Statements.{Makers, Outer, Phase, InPart, Ready, Blo
 use Rattle.src_parser.specs.Tokenwise.{Advance, Goes, Wrong, mapped, with_braces}
 use Rattle.procs_parser.specs.Calls.{CallState, InCall, Opened, CallStep, Still, Done, call_advanced}
 use Rattle.procs_parser.specs.FileGrammar.{proc_word}
-use Rattle.src_lexer.specs.declared.tokens.TokenKind.TheVariants as kind
+use Rattle.src_lexer.specs.declared.tokens.Kind.TheVariants as kind
 
 -- the statements of files with procedures
 abbrev pub with_calls : Makers Statement
@@ -63,7 +63,7 @@ front_depth (Outside decls procedures) = 0
 front_depth (InProcedure decls procedures name parameters locals) = 1
 
 -- a token of a statement that isn't a call
-abbrev pub performs : Limits → Front → Blocks Statement → TokenKind → Advance ParserState
+abbrev pub performs : Limits → Front → Blocks Statement → Kind → Advance ParserState
 performs most front blocks k = mapped (Doing front) (performed with_calls most (front_depth front) blocks k)
 
 -- the closing brace of a procedure
@@ -104,7 +104,7 @@ word_next most front outer here phase other (Some name) = opening front outer he
 word_next most front outer here phase other None = performs most front (Among outer here phase) (kind.Word other)
 
 -- a token of a statement
-abbrev pub statement_next : Limits → Front → Blocks Statement → TokenKind → Advance ParserState
+abbrev pub statement_next : Limits → Front → Blocks Statement → Kind → Advance ParserState
 statement_next most front (Among outer here phase) kind.LParen =
     bracket_next most front outer here phase (target_of phase)
 statement_next most front (Among outer here phase) (kind.Word other) =
@@ -119,11 +119,11 @@ with_call front outer here name (Still call) = Calling front outer here name cal
 with_call front outer here name (Done es) = Doing front (Among outer (here ++ Call name es ∷ []) Ready)
 
 -- the first token of the statements of a file, or of a procedure
-abbrev pub starts : Limits → Front → TokenKind → Advance ParserState
+abbrev pub starts : Limits → Front → Kind → Advance ParserState
 starts most front k = statement_next most front (Among [] [] Ready) k
 
 -- a token between declarations, or the first of the statements
-abbrev pub between : Limits → List Decl → TokenKind → Advance ParserState
+abbrev pub between : Limits → List Decl → Kind → Advance ParserState
 between most decls kind.Public = Goes (Declaring decls (Labelled Public))
 between most decls kind.Secret = Goes (Declaring decls (Labelled Secret))
 between most decls k = starts most (Outside decls []) k
@@ -134,14 +134,14 @@ with_heading decls (Begun heading) = Declaring decls heading
 with_heading decls (Declared decl) = Between (decls ++ decl ∷ [])
 
 -- the first token of a parameter
-abbrev pub parameter_begins : List Decl → List Procedure → List ℕ → List Parameter → TokenKind → Advance ParserState
+abbrev pub parameter_begins : List Decl → List Procedure → List ℕ → List Parameter → Kind → Advance ParserState
 parameter_begins decls procedures name ps kind.Public = Goes (Naming decls procedures name (ScalarLabelled ps Public))
 parameter_begins decls procedures name ps kind.Secret = Goes (Naming decls procedures name (ScalarLabelled ps Secret))
 parameter_begins decls procedures name ps kind.Int = Goes (Naming decls procedures name (ArrayTyped ps))
 parameter_begins decls procedures name ps _ = Wrong
 
 -- a token of a procedure's head, or of its locals
-abbrev pub names_next : Limits → List Decl → List Procedure → List ℕ → HeadPhase → TokenKind → Advance ParserState
+abbrev pub names_next : Limits → List Decl → List Procedure → List ℕ → HeadPhase → Kind → Advance ParserState
 names_next most decls procedures name Opening kind.LParen = Goes (Naming decls procedures name NoneYet)
 names_next most decls procedures name Opening _ = Wrong
 names_next most decls procedures name NoneYet kind.RParen = Goes (Naming decls procedures name (AllRead []))
@@ -185,7 +185,7 @@ names_next most decls procedures name (LocalTitled ps ls label x) kind.Semi =
 names_next most decls procedures name (LocalTitled ps ls label x) _ = Wrong
 
 -- a token, where each name is shown
-abbrev pub advanced : Limits → ParserState → TokenKind → Advance ParserState
+abbrev pub advanced : Limits → ParserState → Kind → Advance ParserState
 advanced most (Between decls) k = between most decls k
 advanced most (Declaring decls heading) k = mapped (with_heading decls) (heading_advanced heading k)
 advanced most (Naming decls procedures name phase) k = names_next most decls procedures name phase k
@@ -194,12 +194,12 @@ advanced most (Calling front outer here name call) k =
     mapped (with_call front outer here name) (call_advanced most call k)
 
 -- whether a token is a name that begins with `__`
-abbrev pub is_hidden_token : TokenKind → Bool
+abbrev pub is_hidden_token : Kind → Bool
 is_hidden_token (kind.Word name) = is_hidden name
 is_hidden_token k = false
 
 -- a token
-abbrev pub taken : Limits → ParserState → TokenKind → Advance ParserState
+abbrev pub taken : Limits → ParserState → Kind → Advance ParserState
 taken most state k = if is_hidden_token k then Wrong else advanced most state k
 
 -- the file, where its statements are complete and in no procedure

@@ -1,6 +1,6 @@
 -- For private clauses only: the parser's own types as the proofs see them.
 use Rattle.std.specs.Prelude.{map, Option, Some, None}
-use Rattle.src_lexer.specs.declared.tokens.TokenKind.{TokenKind}
+use Rattle.src_lexer.specs.declared.tokens.Kind.{Kind}
 use Rattle.src_parser.specs.Grammar.{limits}
 use Rattle.src_parser.specs.Seen.{among, heading_of, outers_of, phase_of, reading_of}
 use Rattle.src_parser.specs.Tokenwise.{Advance}
@@ -72,7 +72,7 @@ abbrev pub named : heads.Head → HeadPhase → ParserState
 named h phase = Naming h.decls.items (map procedure_of h.procs.items) h.name phase
 
 -- the next token of a head, or of its locals
-abbrev pub head_next : heads.Head → HeadPhase → TokenKind → Advance ParserState
+abbrev pub head_next : heads.Head → HeadPhase → Kind → Advance ParserState
 head_next h phase = names_next limits h.decls.items (map procedure_of h.procs.items) h.name phase
 
 abbrev pub start_of : starts.Start → ParserState

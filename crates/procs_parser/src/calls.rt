@@ -7,7 +7,7 @@ ghost use Rattle.procs_parser.specs.StatesSeen.{call_advance_of, call_phase_of};
 
 use crate::states::{CallAdvance, CallPhase};
 use gr_base::Memory;
-use src_lexer::TokenKind;
+use src_lexer::Kind;
 use src_parser::expressions::{finish, fresh, read};
 use src_parser::putting::put;
 use src_parser::readings::{Reading, TokenStep};
@@ -20,17 +20,17 @@ fn behind_argument(
     arguments: &mut Vec<Expr>,
     phase: &mut CallPhase,
     used: u32,
-    kind: &TokenKind,
+    kind: &Kind,
 ) -> CallAdvance
     ensures { call_advance_of result (InCall (trees_of arguments.new.items) (call_phase_of phase.new))
         ≡ behind_argument (trees_of arguments.old.items) used kind.now }
 {
     match kind {
-        TokenKind::Semi => {
+        Kind::Semi => {
             put(phase, CallPhase::Argument(fresh(alloc, 0, used)));
             CallAdvance::Goes
         }
-        TokenKind::RParen => {
+        Kind::RParen => {
             arguments.shrink_to_fit();
             put(phase, CallPhase::Called);
             CallAdvance::Goes
@@ -46,7 +46,7 @@ fn end_argument(
     phase: &mut CallPhase,
     argument: Option<Expr>,
     used: u32,
-    kind: &TokenKind,
+    kind: &Kind,
 ) -> Result<CallAdvance, Memory>
     ensures { IfOk result (λ t. call_advance_of t (InCall (trees_of arguments.new.items) (call_phase_of phase.new))
         ≡ argument_ends (trees_of arguments.old.items) (option_map expr_tree argument) used kind.now) }
@@ -66,7 +66,7 @@ fn begin_argument(
     arguments: &mut Vec<Expr>,
     phase: &mut CallPhase,
     mut reading: Reading,
-    kind: &TokenKind,
+    kind: &Kind,
 ) -> Result<CallAdvance, Memory>
     ensures { IfOk result (λ t. call_advance_of t (InCall (trees_of arguments.new.items) (call_phase_of phase.new))
         ≡ in_argument (trees_of arguments.old.items) kind.now (reads limits (reading_of reading) kind.now)) }
@@ -97,14 +97,14 @@ pub(crate) fn read_call(
     alloc: Global,
     arguments: &mut Vec<Expr>,
     phase: &mut CallPhase,
-    kind: &TokenKind,
+    kind: &Kind,
 ) -> Result<CallAdvance, Memory>
     ensures { IfOk result (λ t. call_advance_of t (InCall (trees_of arguments.new.items) (call_phase_of phase.new))
         ≡ call_advanced limits (InCall (trees_of arguments.old.items) (call_phase_of phase.old)) kind.now) }
 {
     match phase {
         CallPhase::Opened => match kind {
-            TokenKind::RParen => {
+            Kind::RParen => {
                 put(phase, CallPhase::Called);
                 Ok(CallAdvance::Goes)
             }
@@ -120,7 +120,7 @@ pub(crate) fn read_call(
             TokenStep::Deep => Ok(CallAdvance::TooMuch),
         },
         CallPhase::Called => match kind {
-            TokenKind::Semi => Ok(CallAdvance::Ends),
+            Kind::Semi => Ok(CallAdvance::Ends),
             _ => Ok(CallAdvance::Wrong),
         },
     }

@@ -7,7 +7,7 @@ use crate::statements::read_statement;
 use crate::states::{FileAdvance, Front, Mode, ParserState, Start};
 use gr_base::Memory;
 use gr_word::Label;
-use src_lexer::TokenKind;
+use src_lexer::Kind;
 use src_parser::headings::{Heading, HeadingAdvance, read_heading};
 use src_parser::putting::put;
 use src_parser::states::{Blocks, Pause, Phase};
@@ -19,7 +19,7 @@ pub(crate) fn start_statements(
     alloc: Global,
     state: &mut ParserState,
     mut front: Front,
-    kind: &TokenKind,
+    kind: &Kind,
 ) -> Result<FileAdvance, Memory>
     ensures { IfOk result (λ t. advance_of t (state_of state.new) ≡ starts limits (front_of front) kind.now) }
 {
@@ -38,19 +38,19 @@ pub(crate) fn begin_declaration(
     alloc: Global,
     state: &mut ParserState,
     decls: Vec<Decl>,
-    kind: &TokenKind,
+    kind: &Kind,
 ) -> Result<FileAdvance, Memory>
     ensures { IfOk result (λ t. advance_of t (state_of state.new) ≡ between limits decls.items kind.now) }
 {
     match kind {
-        TokenKind::Public => {
+        Kind::Public => {
             put(
                 state,
                 ParserState::Before(Start::Declaring(decls, Heading::Labelled(Label::Public))),
             );
             Ok(FileAdvance::Goes)
         }
-        TokenKind::Secret => {
+        Kind::Secret => {
             put(
                 state,
                 ParserState::Before(Start::Declaring(decls, Heading::Labelled(Label::Secret))),
@@ -67,7 +67,7 @@ pub(crate) fn declare(
     state: &mut ParserState,
     mut decls: Vec<Decl>,
     heading: Heading,
-    kind: &TokenKind,
+    kind: &Kind,
 ) -> Result<FileAdvance, Memory>
     ensures { IfOk result (λ t. advance_of t (state_of state.new)
         ≡ advanced limits (Declaring decls.items (heading_of heading)) kind.now) }

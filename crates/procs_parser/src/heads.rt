@@ -8,7 +8,7 @@ use crate::declarations::start_statements;
 use crate::states::{FileAdvance, Front, Head, HeadPhase, ParserState, Start};
 use gr_base::Memory;
 use gr_word::{Label, Name};
-use src_lexer::TokenKind;
+use src_lexer::Kind;
 use src_parser::putting::put;
 use src_procs::Param;
 use src_tree::Decl;
@@ -29,39 +29,34 @@ fn goes(state: &mut ParserState, head: Head, phase: HeadPhase) -> FileAdvance
 }
 
 // The first token of a parameter.
-fn parameter(
-    state: &mut ParserState,
-    head: Head,
-    params: Vec<Param>,
-    kind: &TokenKind,
-) -> FileAdvance
+fn parameter(state: &mut ParserState, head: Head, params: Vec<Param>, kind: &Kind) -> FileAdvance
     ensures { advance_of result (state_of state.new)
         ≡ parameter_begins head.decls.items (map procedure_of head.procs.items) head.name
         (map parameter_of params.items) kind.now }
 {
     match kind {
-        TokenKind::Public => goes(
+        Kind::Public => goes(
             state,
             head,
             HeadPhase::ScalarLabelled(params, Label::Public),
         ),
-        TokenKind::Secret => goes(
+        Kind::Secret => goes(
             state,
             head,
             HeadPhase::ScalarLabelled(params, Label::Secret),
         ),
-        TokenKind::Int => goes(state, head, HeadPhase::ArrayTyped(params)),
+        Kind::Int => goes(state, head, HeadPhase::ArrayTyped(params)),
         _ => wrong(head),
     }
 }
 
 // The first token after the bracket of a head.
-fn first(alloc: Global, state: &mut ParserState, head: Head, kind: &TokenKind) -> FileAdvance
+fn first(alloc: Global, state: &mut ParserState, head: Head, kind: &Kind) -> FileAdvance
     ensures { advance_of result (state_of state.new)
         ≡ head_next head NoneYet kind.now }
 {
     match kind {
-        TokenKind::RParen => goes(state, head, HeadPhase::AllRead(Vec::new(alloc))),
+        Kind::RParen => goes(state, head, HeadPhase::AllRead(Vec::new(alloc))),
         _ => parameter(state, head, Vec::new(alloc), kind),
     }
 }
@@ -87,13 +82,13 @@ fn scalar_name(
     head: Head,
     params: Vec<Param>,
     label: Label,
-    kind: &TokenKind,
+    kind: &Kind,
 ) -> Result<FileAdvance, Memory>
     ensures { IfOk result (λ t. advance_of t (state_of state.new)
         ≡ head_next head (ScalarTyped (map parameter_of params.items) label) kind.now) }
 {
     match kind {
-        TokenKind::Word(name) => {
+        Kind::Word(name) => {
             let name = name.copy(alloc)?;
             add(state, head, params, Param::Scalar(label, name))
         }
@@ -107,13 +102,13 @@ fn array_name(
     state: &mut ParserState,
     head: Head,
     params: Vec<Param>,
-    kind: &TokenKind,
+    kind: &Kind,
 ) -> Result<FileAdvance, Memory>
     ensures { IfOk result (λ t. advance_of t (state_of state.new)
         ≡ head_next head (ArrayTyped (map parameter_of params.items)) kind.now) }
 {
     match kind {
-        TokenKind::Word(name) => {
+        Kind::Word(name) => {
             let name = name.copy(alloc)?;
             Ok(goes(state, head, HeadPhase::ArrayTitled(params, name)))
         }
@@ -128,18 +123,18 @@ fn start(
     head: Head,
     params: Vec<Param>,
     locals: Vec<Decl>,
-    kind: &TokenKind,
+    kind: &Kind,
 ) -> Result<FileAdvance, Memory>
     ensures { IfOk result (λ t. advance_of t (state_of state.new)
         ≡ head_next head (LocalFresh (map parameter_of params.items) locals.items) kind.now) }
 {
     match kind {
-        TokenKind::Public => Ok(goes(
+        Kind::Public => Ok(goes(
             state,
             head,
             HeadPhase::LocalLabelled(params, locals, Label::Public),
         )),
-        TokenKind::Secret => Ok(goes(
+        Kind::Secret => Ok(goes(
             state,
             head,
             HeadPhase::LocalLabelled(params, locals, Label::Secret),
@@ -156,13 +151,13 @@ fn local_name(
     params: Vec<Param>,
     locals: Vec<Decl>,
     label: Label,
-    kind: &TokenKind,
+    kind: &Kind,
 ) -> Result<FileAdvance, Memory>
     ensures { IfOk result (λ t. advance_of t (state_of state.new)
         ≡ head_next head (LocalTyped (map parameter_of params.items) locals.items label) kind.now) }
 {
     match kind {
-        TokenKind::Word(name) => {
+        Kind::Word(name) => {
             let name = name.copy(alloc)?;
             Ok(goes(
                 state,
@@ -201,20 +196,20 @@ pub(crate) fn name_next(
     state: &mut ParserState,
     head: Head,
     phase: HeadPhase,
-    kind: &TokenKind,
+    kind: &Kind,
 ) -> Result<FileAdvance, Memory>
     ensures { IfOk result (λ t. advance_of t (state_of state.new)
         ≡ head_next head (head_phase_of phase) kind.now) }
 {
     match phase {
         HeadPhase::Opening => match kind {
-            TokenKind::LParen => Ok(goes(state, head, HeadPhase::NoneYet)),
+            Kind::LParen => Ok(goes(state, head, HeadPhase::NoneYet)),
             _ => Ok(wrong(head)),
         },
         HeadPhase::NoneYet => Ok(first(alloc, state, head, kind)),
         HeadPhase::OneMore(params) => Ok(parameter(state, head, params, kind)),
         HeadPhase::ScalarLabelled(params, label) => match kind {
-            TokenKind::Int => Ok(goes(state, head, HeadPhase::ScalarTyped(params, label))),
+            Kind::Int => Ok(goes(state, head, HeadPhase::ScalarTyped(params, label))),
             _ => Ok(wrong(head)),
         },
         HeadPhase::ScalarTyped(params, label) => scalar_name(
@@ -222,36 +217,32 @@ pub(crate) fn name_next(
         ),
         HeadPhase::ArrayTyped(params) => array_name(alloc, state, head, params, kind),
         HeadPhase::ArrayTitled(params, name) => match kind {
-            TokenKind::LBracket => Ok(goes(state, head, HeadPhase::ArrayClosing(params, name))),
+            Kind::LBracket => Ok(goes(state, head, HeadPhase::ArrayClosing(params, name))),
             _ => Ok(wrong(head)),
         },
         HeadPhase::ArrayClosing(params, name) => match kind {
-            TokenKind::RBracket => add(state, head, params, Param::Array(name)),
+            Kind::RBracket => add(state, head, params, Param::Array(name)),
             _ => Ok(wrong(head)),
         },
         HeadPhase::Behind(params) => match kind {
-            TokenKind::Semi => Ok(goes(state, head, HeadPhase::OneMore(params))),
-            TokenKind::RParen => Ok(goes(state, head, HeadPhase::AllRead(params))),
+            Kind::Semi => Ok(goes(state, head, HeadPhase::OneMore(params))),
+            Kind::RParen => Ok(goes(state, head, HeadPhase::AllRead(params))),
             _ => Ok(wrong(head)),
         },
         HeadPhase::AllRead(params) => match kind {
-            TokenKind::LBrace => Ok(goes(
-                state,
-                head,
-                HeadPhase::LocalFresh(params, Vec::new(alloc)),
-            )),
+            Kind::LBrace => Ok(goes(state, head, HeadPhase::LocalFresh(params, Vec::new(alloc)))),
             _ => Ok(wrong(head)),
         },
         HeadPhase::LocalFresh(params, locals) => start(alloc, state, head, params, locals, kind),
         HeadPhase::LocalLabelled(params, locals, label) => match kind {
-            TokenKind::Int => Ok(goes(state, head, HeadPhase::LocalTyped(params, locals, label))),
+            Kind::Int => Ok(goes(state, head, HeadPhase::LocalTyped(params, locals, label))),
             _ => Ok(wrong(head)),
         },
         HeadPhase::LocalTyped(params, locals, label) => {
             local_name(alloc, state, head, params, locals, label, kind)
         }
         HeadPhase::LocalTitled(params, locals, label, name) => match kind {
-            TokenKind::Semi => add_local(state, head, params, locals, label, name),
+            Kind::Semi => add_local(state, head, params, locals, label, name),
             _ => Ok(wrong(head)),
         },
     }

@@ -1,6 +1,6 @@
 ghost use Rattle.std.specs.Prelude.{◌≡◌, ◌≢◌, List};
 ghost use Rattle.src_lexer.specs.declared.tokens.Token.{Token};
-ghost use Rattle.src_lexer.specs.declared.tokens.TokenKind.{TokenKind};
+ghost use Rattle.src_lexer.specs.declared.tokens.Kind.{Kind};
 ghost use Rattle.src_parser.specs.Prelude.{limits, token_kinds};
 ghost use Rattle.src_parser.specs.declared.errors.ParseError.{ParseError};
 ghost use Rattle.src_parser.specs.declared.errors.ParseError.TheVariants.{Memory};
@@ -10,7 +10,7 @@ ghost use Rattle.procs_parser.specs.FileRefusals.{ExplainsFile};
 
 /// A law: tokens are at most one file.
 pub fn one_file()
-    ensures { (tokens : List TokenKind) (f g : File) → SpellsFile limits tokens f → SpellsFile limits tokens g → f ≡ g }
+    ensures { (tokens : List Kind) (f g : File) → SpellsFile limits tokens f → SpellsFile limits tokens g → f ≡ g }
 {}
 
 /// A law: no error is true of tokens that are a file. `Memory` says nothing about them.

@@ -14,7 +14,7 @@ use crate::languages::ProcFiles;
 use crate::statements::read_statement;
 use crate::states::{CallPhase, FileAdvance, Front, HeadPhase, Mode, ParserState, Start};
 use gr_base::Memory;
-use src_lexer::{Token, TokenKind};
+use src_lexer::{Kind, Token};
 use src_parser::putting::put;
 use src_parser::statements::complete;
 use src_parser::states::{Blocks, Phase};
@@ -24,11 +24,11 @@ use std::alloc::Global;
 use std::mem;
 
 // Whether a token is a name that begins with `__`.
-fn is_hidden_token(kind: &TokenKind) -> bool
+fn is_hidden_token(kind: &Kind) -> bool
     ensures { result ≡ is_hidden_token kind.now }
 {
     match kind {
-        TokenKind::Word(name) => is_hidden(name.bytes()),
+        Kind::Word(name) => is_hidden(name.bytes()),
         _ => false,
     }
 }
@@ -38,7 +38,7 @@ fn start(
     alloc: Global,
     state: &mut ParserState,
     start: Start,
-    kind: &TokenKind,
+    kind: &Kind,
 ) -> Result<FileAdvance, Memory>
     ensures { IfOk result (λ t. advance_of t (state_of state.new) ≡ advanced limits (start_of start) kind.now) }
 {
@@ -50,7 +50,7 @@ fn start(
 }
 
 // The next token of a file, for any name.
-fn advance(alloc: Global, state: &mut ParserState, kind: &TokenKind) -> Result<FileAdvance, Memory>
+fn advance(alloc: Global, state: &mut ParserState, kind: &Kind) -> Result<FileAdvance, Memory>
     ensures { IfOk result (λ t. advance_of t (state_of state.new) ≡ advanced limits (state_of state.old) kind.now) }
 {
     match state {
@@ -65,7 +65,7 @@ fn advance(alloc: Global, state: &mut ParserState, kind: &TokenKind) -> Result<F
 }
 
 // The next token of a file.
-fn take(alloc: Global, state: &mut ParserState, kind: &TokenKind) -> Result<FileAdvance, Memory>
+fn take(alloc: Global, state: &mut ParserState, kind: &Kind) -> Result<FileAdvance, Memory>
     ensures { IfOk result (λ t. advance_of t (state_of state.new) ≡ taken limits (state_of state.old) kind.now) }
 {
     if is_hidden_token(kind) {

@@ -10,7 +10,7 @@ use crate::languages::ProcFiles;
 use crate::states::{CallAdvance, CallPhase, FileAdvance, Front, Head, Mode};
 use gr_base::Memory;
 use gr_word::Name;
-use src_lexer::TokenKind;
+use src_lexer::Kind;
 use src_parser::parts::{Lead, Part};
 use src_parser::putting::put;
 use src_parser::statements::{complete, is_complete, perform};
@@ -35,7 +35,7 @@ fn read_other(
     front: &Front,
     blocks: &mut Blocks<PStmt>,
     phase: &mut Phase<PStmt>,
-    kind: &TokenKind,
+    kind: &Kind,
 ) -> Result<FileAdvance, Memory>
     ensures { IfOk result (λ t.
         advance_of t (Doing (front_of front.now) (among statement_of blocks.new (phase_of statement_of phase.new)))
@@ -166,14 +166,14 @@ pub(crate) fn read_statement(
     front: &mut Front,
     blocks: &mut Blocks<PStmt>,
     mode: &mut Mode,
-    kind: &TokenKind,
+    kind: &Kind,
 ) -> Result<FileAdvance, Memory>
     ensures { IfOk result (λ t. advance_of t (doing front.new blocks.new mode.new)
         ≡ advanced limits (doing front.old blocks.old mode.old) kind.now) }
 {
     match mode {
         Mode::Reading(phase) => match kind {
-            TokenKind::LParen => match target(alloc, phase)? {
+            Kind::LParen => match target(alloc, phase)? {
                 Some(name) => {
                     put(
                         mode,
@@ -183,7 +183,7 @@ pub(crate) fn read_statement(
                 }
                 None => read_other(alloc, front, blocks, phase, kind),
             },
-            TokenKind::Word(other) => match target(alloc, phase)? {
+            Kind::Word(other) => match target(alloc, phase)? {
                 Some(name) => {
                     match open(alloc, front, blocks, is_proc(&name), other.copy(alloc)?) {
                         Some(head) => Ok(FileAdvance::Opens(head)),
@@ -192,7 +192,7 @@ pub(crate) fn read_statement(
                 }
                 None => read_other(alloc, front, blocks, phase, kind),
             },
-            TokenKind::RBrace => {
+            Kind::RBrace => {
                 if is_complete::<ProcFiles>(blocks, phase) {
                     close(alloc, front, blocks, phase)
                 } else {

@@ -1,7 +1,6 @@
 use crate::rights::{PRIVATE, Rights};
-use crate::shelf::is_one_file;
 use std::alloc::Global;
-use std::fs::{OpenFile, OpenOptions};
+use std::fs::{Metadata, OpenFile, OpenOptions};
 use std::io::{Error, ErrorKind, Write};
 use std::os::unix::fs::{MetadataExt, OpenOptionsExt};
 use std::os::unix::io::AsFd;
@@ -75,6 +74,11 @@ fn is_standard_output<R: Files>(rt: &R, name: &str) -> bool {
         },
         Err(_) => false,
     }
+}
+
+// Whether two files are the same one, by device and number.
+fn is_one_file(file: &Metadata, other: &Metadata) -> bool {
+    file.dev() == other.dev() && file.ino() == other.ino()
 }
 
 // Gives a new file the name of another, and returns whether the system allowed it. The system doesn't if the other one

@@ -5,10 +5,8 @@ use crate::failure::Failure;
 use crate::replacing::replace;
 use gr_outside::{Shelf, ShelfError};
 use std::alloc::{AllocError, Global};
-use std::fs::Metadata;
 use std::io::{Error, ErrorKind, Read};
 use std::marker::Model;
-use std::os::unix::fs::MetadataExt;
 use std::os::unix::io::AsFd;
 use std::rt::Files;
 use std::{fs, io};
@@ -67,15 +65,6 @@ impl<R: Files + Drop> RealShelf<R> {
         ensures { IsSome result ↔ (1 ≤ self.now.read_faults + self.now.write_faults) }
     {
         self.failure.as_ref()
-    }
-
-    /// Whether both names refer to one regular file, by device and number. Links are followed. A name that can't be
-    /// looked up refers to no file.
-    pub fn are_one_file(&self, one: &str, other: &str) -> bool {
-        match (fs::metadata(&self.rt, one), fs::metadata(&self.rt, other)) {
-            (Ok(one), Ok(other)) => one.is_file() && is_one_file(&one, &other),
-            _ => false,
-        }
     }
 
     // Counts a failed read, and keeps its cause.
@@ -148,11 +137,6 @@ fn refusal_of_read(kind: ErrorKind) -> ShelfError
     } else {
         ShelfError::Failed
     }
-}
-
-/// Whether two files are the same one, by device and number.
-pub(crate) fn is_one_file(file: &Metadata, other: &Metadata) -> bool {
-    file.dev() == other.dev() && file.ino() == other.ino()
 }
 
 /// The first `most` bytes of a real file.

@@ -1,10 +1,9 @@
-ghost use Rattle.std.specs.Prelude.{◌≡◌, ◌≤◌, ◌↔◌, ◌-◌, ◌+◌, ◌^◌, [], ◌++◌, None, Some, IfOk, IsSome, MatchOption, OnErr, OnOk, drop, length, min, take, vec_capacity, vec_len};
+ghost use Rattle.std.specs.Prelude.{◌≡◌, ◌≤◌, ◌↔◌, ◌-◌, ◌+◌, ◌^◌, [], ◌++◌, None, Some, IsSome, MatchOption, OnErr, OnOk, drop, false, length, min, take, true, vec_len};
 ghost use Rattle.std.specs.Io.KnownBytes.{Appends, Keeps};
 ghost use Rattle.gr_base.specs.Prelude.{one_more, Rose};
 ghost use Rattle.real_outside.specs.Gathering.{Takes, TakesLess, gathered, most_waiting};
 
 use crate::failure::Cause;
-use gr_base::Memory;
 use gr_outside::{Sink, SinkFailed};
 use std::alloc::Global;
 use std::io::{Error, ErrorKind, Write};
@@ -17,6 +16,7 @@ const ROOM: usize = 65_536;
 const TAKES_NONE: &str = "it takes no more bytes";
 
 /// A sink over a writer. It keeps up to 64 KiB waiting and passes them to the writer together; a flush passes the rest.
+/// If there is no memory for bytes to wait, they are passed on at once.
 /// If `put` returns Ok, its bytes were passed on or are waiting, so a failure of the writer may be reported at a later
 /// `put` or at the flush. As a sink its bytes aren't visible to contracts, since those of standard output aren't. Its
 /// own clauses state what the writer was handed, if that is visible. [`RealSink::failure`] returns the cause of the
@@ -31,7 +31,7 @@ pub struct RealSink<W: Write + Drop> {
 }
 
 impl<W: Write + Drop> Model for RealSink<W> {
-    ghost use Rattle.std.specs.Prelude.{◌≤◌, ◌↔◌, IsSome, length, vec_capacity};
+    ghost use Rattle.std.specs.Prelude.{◌≤◌, ◌↔◌, IsSome, length};
     ghost use Rattle.real_outside.specs.Gathering.{Gathered, most_waiting};
 
     ghost Value = { Gathered };
@@ -43,25 +43,21 @@ impl<W: Write + Drop> Model for RealSink<W> {
       faults = s.faults;
     } };
 
-    ghost invariant = { λ s. (length s.waiting.items ≤ most_waiting)
-        × (most_waiting ≤ vec_capacity s.waiting)
-        × (IsSome s.cause ↔ (1 ≤ s.faults)) };
+    ghost invariant = { λ s. (length s.waiting.items ≤ most_waiting) × (IsSome s.cause ↔ (1 ≤ s.faults)) };
 }
 
 impl<W: Write + Drop> RealSink<W> {
-    /// A sink over this writer. No put has failed yet, and nothing waits. Out of memory drops the writer.
-    pub fn new(alloc: Global, writer: W) -> Result<RealSink<W>, Memory>
-        ensures { IfOk result (λ s. s
-            ≡ record { handed = W.contents writer; waiting = []; put = 0; faults = 0 }) }
+    /// A sink over this writer. No put has failed yet, and nothing waits.
+    pub fn new(alloc: Global, writer: W) -> RealSink<W>
+        ensures { result ≡ record { handed = W.contents writer; waiting = []; put = 0; faults = 0 } }
     {
-        let waiting = Vec::with_capacity(alloc, ROOM)?;
-        Ok(RealSink {
+        RealSink {
             writer,
-            waiting,
+            waiting: Vec::new(alloc),
             put: 0,
             faults: 0,
             cause: None,
-        })
+        }
     }
 
     /// Why the last put or flush that failed did so.
@@ -71,18 +67,24 @@ impl<W: Write + Drop> RealSink<W> {
         self.cause
     }
 
-    // Adds the bytes to those that wait.
-    fn hold(&mut self, bytes: &[u8])
-        requires { length self.old.waiting + length bytes.now ≤ most_waiting }
-        ensures { self.new ≡ record self.old {
+    // Adds the bytes to those that wait, and returns whether it did. It doesn't if too many would wait, or if memory runs
+    // out.
+    fn holds(&mut self, bytes: &[u8]) -> bool
+        ensures held { result ≡ true → self.new ≡ record self.old {
           waiting = self.old.waiting ++ bytes.now;
           put = min (self.old.put + length bytes.now) (2 ^ 64 - 1);
         } }
+        ensures few_wait { result ≡ true → length self.new.waiting ≤ most_waiting }
+        ensures left { result ≡ false → self.new ≡ self.old }
     {
+        if bytes.len() > ROOM - self.waiting.len() {
+            return false;
+        }
+        if self.waiting.extend_from_slice(bytes).is_err() {
+            return false;
+        }
         self.put = self.put.saturating_add(bytes.len());
-        let Ok(()) = self.waiting.extend_from_slice(bytes) else {
-            unreachable!()
-        };
+        true
     }
 
     // Passes the waiting bytes to the writer. Bytes that it doesn't take keep waiting.
@@ -91,6 +93,7 @@ impl<W: Write + Drop> RealSink<W> {
         ensures nothing_waits { OnOk result (self.new.waiting ≡ []) }
         ensures few_wait { length self.new.waiting ≤ most_waiting }
         ensures put { self.new.put ≡ self.old.put }
+        ensures most_put { self.new.put ≤ 2 ^ 64 - 1 }
         ensures calm { OnOk result (self.new.faults ≡ self.old.faults) }
         ensures failed { OnErr result (Rose self.old.faults self.new.faults) }
         ensures count { self.old.faults ≤ self.new.faults }
@@ -103,7 +106,7 @@ impl<W: Write + Drop> RealSink<W> {
         }
     }
 
-    // Takes bytes while none wait: up to 64 KiB of them wait, and more are passed to the writer at once.
+    // Takes bytes while none wait: they wait if they are few and there is memory, and are passed to the writer otherwise.
     fn put_first(&mut self, bytes: &[u8]) -> Result<(), SinkFailed>
         requires { self.old.waiting ≡ [] }
         ensures taken { OnOk result (Takes self.old self.new bytes.now) }
@@ -113,8 +116,7 @@ impl<W: Write + Drop> RealSink<W> {
         ensures failed { OnErr result (Rose self.old.faults self.new.faults) }
         ensures count { self.old.faults ≤ self.new.faults }
     {
-        if bytes.len() <= ROOM {
-            self.hold(bytes);
+        if self.holds(bytes) {
             return Ok(());
         }
         let Written { count, stopped } = write_front(&mut self.writer, bytes);
@@ -122,6 +124,21 @@ impl<W: Write + Drop> RealSink<W> {
         match stopped {
             None => Ok(()),
             Some(error) => Err(self.fail(error)),
+        }
+    }
+
+    // Passes the waiting bytes to the writer, and then takes others.
+    fn hand_on_and_put(&mut self, bytes: &[u8]) -> Result<(), SinkFailed>
+        ensures taken { OnOk result (Takes self.old self.new bytes.now) }
+        ensures part { OnErr result (TakesLess self.old self.new bytes.now) }
+        ensures few_wait { length self.new.waiting ≤ most_waiting }
+        ensures calm { OnOk result (self.new.faults ≡ self.old.faults) }
+        ensures failed { OnErr result (Rose self.old.faults self.new.faults) }
+        ensures count { self.old.faults ≤ self.new.faults }
+    {
+        match self.hand_on() {
+            Ok(()) => self.put_first(bytes),
+            Err(error) => Err(error),
         }
     }
 
@@ -154,14 +171,10 @@ impl<W: Write + Drop> Sink for RealSink<W> {
         ensures count { self.old.faults ≤ self.new.faults }
         ensures count_stays { self.old.faults ≡ 2 ^ 64 - 1 → self.new.faults ≡ 2 ^ 64 - 1 }
     {
-        if bytes.len() <= ROOM - self.waiting.len() {
-            self.hold(bytes);
+        if self.holds(bytes) {
             return Ok(());
         }
-        match self.hand_on() {
-            Ok(()) => self.put_first(bytes),
-            Err(error) => Err(error),
-        }
+        self.hand_on_and_put(bytes)
     }
 
     /// Passes the waiting bytes to the writer, and flushes it. Bytes that it doesn't take keep waiting.
@@ -241,8 +254,7 @@ fn stopped(count: usize, error: Error) -> Written
 
 fn remove_front(bytes: &mut Vec<u8>, count: usize)
     requires { count ≤ vec_len bytes.old }
-    ensures items { bytes.new.items ≡ drop count bytes.old.items }
-    ensures capacity { vec_capacity bytes.new ≡ vec_capacity bytes.old }
+    ensures { bytes.new.items ≡ drop count bytes.old.items }
 {
     let len = bytes.len();
     bytes.as_mut_slice().copy_within(count..len, 0);

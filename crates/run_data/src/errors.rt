@@ -1,7 +1,7 @@
 ghost use Rattle.std.specs.Prelude.{◌≡◌};
 ghost use Rattle.run_data.specs.declared.errors.InputError.TheVariants.{Memory};
 
-use crate::texts::NameText;
+use crate::texts::Name2;
 
 /// Why a text gives no inputs: its first fault.
 #[derive(Debug, Drop)]
@@ -11,13 +11,13 @@ pub enum InputError {
     /// The value isn't an object.
     NotAnObject,
     /// No variable has this name.
-    UnknownName(NameText),
+    UnknownName(Name2),
     /// The value of this name isn't a number, for a scalar, or a list, for an array.
-    WrongShape(NameText),
+    WrongShape(Name2),
     /// The list of this name hasn't the length of its array.
-    WrongLength(NameText),
+    WrongLength(Name2),
     /// The value of this name, or an element of its list, isn't a signed 64-bit integer.
-    NotAWord(NameText),
+    NotAWord(Name2),
     /// Memory ran out, which says nothing of the text.
     Memory,
 }

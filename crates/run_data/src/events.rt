@@ -42,6 +42,14 @@ pub fn put_event<O: Sink>(out: &mut O, stamp: u32, event: &Event) -> Result<(), 
     ensures count { (O.seen out.old).faults ≤ (O.seen out.new).faults }
     ensures count_stays { (O.seen out.old).faults ≡ 2 ^ 64 - 1 → (O.seen out.new).faults ≡ 2 ^ 64 - 1 }
 {
+    put_line_of(out, stamp, event)
+}
+
+/// Puts the line of an event with its stamp.
+fn put_line_of<O: Sink>(out: &mut O, stamp: u32, event: &Event) -> Result<(), SinkFailed>
+    ensures { PutsText (O.seen out.old).held (O.seen out.new).held (O.seen out.old).faults (O.seen out.new).faults
+        (event_line stamp (observed_of event.now)) result }
+{
     match event {
         Event::RamRead(block, words) => put_parts(out, stamp, b" D r ", *block, words),
         Event::RamWrite(block, words) => put_parts(out, stamp, b" D w ", *block, words),

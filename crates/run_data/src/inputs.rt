@@ -7,7 +7,7 @@ ghost use Rattle.run_data.specs.Given.{given_view, given_values, entries_view, g
 
 use crate::errors::InputError;
 use crate::members::{Given, GivenMembers, Unread, read_text};
-use crate::texts::NameText;
+use crate::texts::Name2;
 use gr_word::{Inputs, Memory, Name, Shape, Want};
 use std::alloc::Global;
 
@@ -75,7 +75,7 @@ fn check_named(alloc: Global, wants: &[Want], name: &str, given: &Given) -> Resu
             return check_value(alloc, want, name, given);
         }
     }
-    Err(InputError::UnknownName(NameText::new(alloc, name)?))
+    Err(InputError::UnknownName(Name2::new(alloc, name)?))
 }
 
 /// Whether a value gives a variable words. The name is the variable's, as a text.
@@ -86,28 +86,46 @@ fn check_value(alloc: Global, want: &Want, name: &str, given: &Given) -> Result<
         (λ e. e ≢ InputError.Memory → given_value_fault want.now (given_view given.now) ≡ Some e) }
 {
     match want.shape {
-        Shape::Scalar => {
-            let Given::Number(word) = given else {
-                return Err(InputError::WrongShape(NameText::new(alloc, name)?));
-            };
-            if word.is_none() {
-                return Err(InputError::NotAWord(NameText::new(alloc, name)?));
-            }
-            Ok(())
-        }
-        Shape::Array => {
-            let Given::Items(list) = given else {
-                return Err(InputError::WrongShape(NameText::new(alloc, name)?));
-            };
-            if list.words.len() != want.length as usize {
-                return Err(InputError::WrongLength(NameText::new(alloc, name)?));
-            }
-            if !list.are_words {
-                return Err(InputError::NotAWord(NameText::new(alloc, name)?));
-            }
-            Ok(())
-        }
+        Shape::Scalar => check_scalar(alloc, want, name, given),
+        Shape::Array => check_array(alloc, want, name, given),
     }
+}
+
+/// Whether a value gives a scalar its word.
+fn check_scalar(alloc: Global, want: &Want, name: &str, given: &Given) -> Result<(), InputError>
+    requires named { want.now.name ≡ name.now }
+    requires scalar { want.now.shape ≡ Shape.Scalar }
+    ensures none { OnOk result (given_value_fault want.now (given_view given.now) ≡ None) }
+    ensures first { IfErr result
+        (λ e. e ≢ InputError.Memory → given_value_fault want.now (given_view given.now) ≡ Some e) }
+{
+    let Given::Number(word) = given else {
+        return Err(InputError::WrongShape(Name2::new(alloc, name)?));
+    };
+    if word.is_none() {
+        return Err(InputError::NotAWord(Name2::new(alloc, name)?));
+    }
+    Ok(())
+}
+
+/// Whether a value gives an array its words.
+fn check_array(alloc: Global, want: &Want, name: &str, given: &Given) -> Result<(), InputError>
+    requires named { want.now.name ≡ name.now }
+    requires array { want.now.shape ≡ Shape.Array }
+    ensures none { OnOk result (given_value_fault want.now (given_view given.now) ≡ None) }
+    ensures first { IfErr result
+        (λ e. e ≢ InputError.Memory → given_value_fault want.now (given_view given.now) ≡ Some e) }
+{
+    let Given::Items(list) = given else {
+        return Err(InputError::WrongShape(Name2::new(alloc, name)?));
+    };
+    if list.words.len() != want.length as usize {
+        return Err(InputError::WrongLength(Name2::new(alloc, name)?));
+    }
+    if !list.are_words {
+        return Err(InputError::NotAWord(Name2::new(alloc, name)?));
+    }
+    Ok(())
 }
 
 /// The words that the members give the variables.
@@ -172,11 +190,7 @@ fn copied(alloc: Global, words: &[i64]) -> Result<Vec<i64>, Memory>
     ensures copied { IfOk result (λ copy. copy.items ≡ words.now) }
     ensures words { IfOk result (λ copy. AreWords copy.items) }
 {
-    let mut copy = Vec::with_capacity(alloc, words.len())?;
-    for word in words {
-        copy.push(*word)?;
-    }
-    Ok(copy)
+    Ok(Vec::from_slice(alloc, words)?)
 }
 
 /// The text of a name, which is ASCII.

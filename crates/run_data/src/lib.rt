@@ -29,6 +29,6 @@ pub use json_numbers::number_given;
 pub use laws::{output_laws, trace_laws, written_again};
 pub use outputs::output_text;
 pub use paths::{put_level, put_levels_head, put_path};
-pub use texts::NameText;
+pub use texts::Name2;
 pub use trace_files::{SeenEvent, TraceError, TraceFile, TraceLine, Words};
 pub use traces::{read_trace, trace_text};

@@ -7,7 +7,7 @@ use Rattle.std.proofs.lemmas.List.Sums.{prefix_len-le-length}
 use Rattle.std.proofs.lemmas.List.Folds.{length-prefix_len}
 use Rattle.std.proofs.lemmas.Bool.Decides.{nat_tests}
 use Rattle.gr_word.specs.Prelude.{is_name_byte}
-use Rattle.src_lexer.specs.declared.tokens.TokenKind.{TokenKind}
+use Rattle.src_lexer.specs.declared.tokens.Kind.{Kind}
 use Rattle.src_lexer.specs.Prelude.{is_white, is_in_line, LetterRun, Is, Big, Long, Mixed, letter_run_of, sign_of, BytePair, Two, Slashes, Apart, pair_of, Lexed, with_token, token_at, IsLongest, Splits, Blank, Comment, Word, Double, Single, TooBig, TooLong, Behind, Bad, Found, Skipped, Piece, Faulty, run_found, single_found, sign_found, found_in}
 use Rattle.src_lexer.proofs.Longest.{prefix_each, prefix_ends}
 
@@ -60,7 +60,7 @@ run_allows at text some (Mixed digits) is =
     (Behind (take_while is_name_byte text) digits (omega arith) (longest is_name_byte text) is)
 
 single_allows : (at b : ℕ) (rest : List ℕ)
-    → is_white b ≡ false → is_name_byte b ≡ false → pair_of b (slice_index rest 0) ≡ Apart → (o : Option TokenKind)
+    → is_white b ≡ false → is_name_byte b ≡ false → pair_of b (slice_index rest 0) ≡ Apart → (o : Option Kind)
     → sign_of b ≡ o → Allows at (b ∷ rest) (single_found at o)
 single_allows at b rest white name apart (Some k) is =
     (omega arith, omega arith, λ r s. Single k b (record { no_white = white; no_word = name }) is apart s)

@@ -6,7 +6,7 @@ use Rattle.std.specs.Char.{is_ascii_digit}
 use Rattle.std.specs.Str.Parse.{digits_value}
 use Rattle.std.proofs.lemmas.Bool.Decides.{nat_tests}
 use Rattle.src_lexer.specs.Prelude.{LetterRun, Is, Big, Mixed, number_run}
-use Rattle.src_lexer.specs.declared.tokens.TokenKind.TheVariants as kind
+use Rattle.src_lexer.specs.declared.tokens.Kind.TheVariants as kind
 
 -- a number, from the count of its digits, the length of the run and the value
 abbrev number_by : ℕ → ℕ → ℕ → LetterRun

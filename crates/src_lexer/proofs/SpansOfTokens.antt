@@ -2,7 +2,7 @@
 use Rattle.std.proofs.Common.{◌≡◌, ℕ, ◌+◌, ◌<◌, ◌≤◌, List, [], ◌∷◌, ◌++◌, length, length-append, take, drop, sym, ap, ◌∙◌, subst, arith, Ok, Err}
 use Rattle.std.proofs.lemmas.List.{drop-drop}
 use Rattle.std.proofs.Math.Seq.{take-append_seam, drop-append_seam}
-use Rattle.src_lexer.specs.declared.tokens.TokenKind.{TokenKind}
+use Rattle.src_lexer.specs.declared.tokens.Kind.{Kind}
 use Rattle.src_lexer.specs.declared.tokens.Token.{Token}
 use Rattle.src_lexer.specs.Prelude.{Lexed, with_token, token_at, Splits, Ends, Blank, Comment, Word, Double, Single, Spelled, ByRun, ByOne, ByTwo, InOrder, IsSlice, AreSlices}
 
@@ -18,7 +18,7 @@ skipped : (at next end last : ℕ) (r : Lexed) → at ≤ next → end ≡ last 
 skipped at next end last (Ok tokens) h e o = subst (λ z. InOrder at z tokens) e (earlier at next end tokens h o)
 skipped at next end last (Err x) h e o = tt
 
-token_first : (k : TokenKind) (at size end last : ℕ) (r : Lexed)
+token_first : (k : Kind) (at size end last : ℕ) (r : Lexed)
     → 0 < size → end ≡ last → SpansOf (at + size) end r → SpansOf at last (with_token (token_at k at size) r)
 token_first k at size end last (Ok tokens) some e o = (omega arith, some, subst (λ z. InOrder (at + size) z tokens) e o)
 token_first k at size end last (Err x) some e o = tt
@@ -43,7 +43,7 @@ abbrev pub SlicesOf : List ℕ → Lexed → Type 0
 SlicesOf text (Ok tokens) = AreSlices text tokens
 SlicesOf text (Err e) = Unit {0}
 
-slice_first : (text : List ℕ) (k : TokenKind) (at size : ℕ) (r : Lexed)
+slice_first : (text : List ℕ) (k : Kind) (at size : ℕ) (r : Lexed)
     → IsSlice text (token_at k at size) → SlicesOf text r → SlicesOf text (with_token (token_at k at size) r)
 slice_first text k at size (Ok tokens) i o = (i, o)
 slice_first text k at size (Err e) i o = tt
@@ -52,7 +52,7 @@ behind : (text piece rest : List ℕ) (at : ℕ) → drop at text ≡ piece ++ r
 behind text piece rest at e =
     sym (drop-drop (length piece) at text) ∙ (ap (drop (length piece)) e ∙ drop-append_seam piece rest)
 
-front : (text piece rest : List ℕ) (k : TokenKind) (at : ℕ)
+front : (text piece rest : List ℕ) (k : Kind) (at : ℕ)
     → drop at text ≡ piece ++ rest → Spelled piece k → IsSlice text (token_at k at (length piece))
 front text piece rest k at e s =
     subst (λ z. Spelled z k) (sym (ap (take (length piece)) e ∙ take-append_seam piece rest)) s

@@ -1,7 +1,7 @@
 -- Reading a text piece by piece.
 use Rattle.std.proofs.Common.{◌≡◌, ◌⊎◌, inl, inr, ℕ, ◌+◌, ◌<◌, ◌≤◌, List, [], ◌∷◌, ◌++◌, length, length-append, drop, sym, subst, length-drop, arith, Ok, Err}
 use Rattle.std.proofs.lemmas.List.{append-nil, drop-drop, drop_all}
-use Rattle.src_lexer.specs.declared.tokens.TokenKind.{TokenKind}
+use Rattle.src_lexer.specs.declared.tokens.Kind.{Kind}
 use Rattle.src_lexer.specs.declared.tokens.Token.{Token}
 use Rattle.src_lexer.specs.declared.errors.LexError.{LexError}
 use Rattle.src_lexer.specs.Prelude.{token_at, Splits, left_from, BeginsWith, Found, Skipped, Piece, Faulty, found_in}
@@ -37,7 +37,7 @@ begins_after_skipped text end n a =
     record { splits = λ r t. a.2 r (subst (λ z. Splits (end + n) z r) (sym (drop-drop n end text)) t) }
 
 -- the rest of a text begins with its first token
-begins_with_token : (text : List ℕ) (end n : ℕ) (k : TokenKind) → Allows end (drop end text) (Piece k n)
+begins_with_token : (text : List ℕ) (end n : ℕ) (k : Kind) → Allows end (drop end text) (Piece k n)
     → BeginsWith (left_from end text) (token_at k end n ∷ []) (left_from (end + n) text)
 begins_with_token text end n k a =
     record { splits = λ r t. a.2 r (subst (λ z. Splits (end + n) z r) (sym (drop-drop n end text)) t) }
@@ -63,7 +63,7 @@ skips_from {text} {at = at} {end} {n} {tokens} s h is e =
     }
 
 -- one more token is added
-pub takes_from : {text rest : List ℕ} {at end n : ℕ} {k : TokenKind} {tokens : List Token}
+pub takes_from : {text rest : List ℕ} {at end n : ℕ} {k : Kind} {tokens : List Token}
     → Stands text at end tokens → end < length text → rest ≡ drop end text → Piece k n ≡ found_in end rest
     → Stands text at (end + n) (tokens ++ token_at k end n ∷ [])
 takes_from {text} {at = at} {end} {n} {k} {tokens} s h is e =

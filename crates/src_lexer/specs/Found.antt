@@ -2,7 +2,7 @@
 use Rattle.std.specs.Prelude.{ℕ, ◌+◌, if◌then◌else◌, List, drop, slice_index, Option, Some, None}
 use Rattle.std.specs.List.{prefix_len, take_while}
 use Rattle.gr_word.specs.Names.{is_name_byte}
-use Rattle.src_lexer.specs.declared.tokens.TokenKind.{TokenKind}
+use Rattle.src_lexer.specs.declared.tokens.Kind.{Kind}
 use Rattle.src_lexer.specs.declared.errors.LexError.{LexError}
 use Rattle.src_lexer.specs.Pieces.{is_white, is_in_line, LetterRun, Is, Big, Long, Mixed, letter_run_of, sign_of, BytePair, Two, Slashes, Apart, pair_of}
 use Rattle.src_lexer.specs.declared.errors.LexError.TheVariants as error
@@ -10,7 +10,7 @@ use Rattle.src_lexer.specs.declared.errors.LexError.TheVariants as error
 -- white space or a comment of this length; a token of this length; or an error
 pub data Found : Type 0 where
   Skipped : (size : ℕ) → Found
-  Piece : (k : TokenKind) (size : ℕ) → Found
+  Piece : (k : Kind) (size : ℕ) → Found
   Faulty : (e : LexError) → Found
 
 abbrev pub run_found : ℕ → ℕ → LetterRun → Found
@@ -19,7 +19,7 @@ run_found at size Big = Faulty (error.NumberTooBig at)
 run_found at size Long = Faulty (error.NameTooLong at)
 run_found at size (Mixed digits) = Faulty (error.BadByte (at + digits))
 
-abbrev pub single_found : ℕ → Option TokenKind → Found
+abbrev pub single_found : ℕ → Option Kind → Found
 single_found at (Some k) = Piece k 1
 single_found at None = Faulty (error.BadByte at)
 

@@ -3,8 +3,8 @@ use Rattle.std.specs.Prelude.{ℕ, ◌^◌, ◌-◌, nat_le, nat_lt, Bool, true,
 use Rattle.std.specs.List.{prefix_len}
 use Rattle.std.specs.Char.{is_ascii_digit}
 use Rattle.std.specs.Str.Parse.{digits_value}
-use Rattle.src_lexer.specs.declared.tokens.TokenKind.{TokenKind}
-use Rattle.src_lexer.specs.declared.tokens.TokenKind.TheVariants as kind
+use Rattle.src_lexer.specs.declared.tokens.Kind.{Kind}
+use Rattle.src_lexer.specs.declared.tokens.Kind.TheVariants as kind
 
 -- space, tab, line feed and carriage return
 abbrev pub is_white : ℕ → Bool
@@ -17,7 +17,7 @@ is_in_line b = if b == 10 then false else true
 -- a run of letters, digits and `_`, classified: a token; a number that is too big; a name that is too long; or a number
 -- of this many digits with a letter or `_` directly after it
 pub data LetterRun : Type 0 where
-  Is : (k : TokenKind) → LetterRun
+  Is : (k : Kind) → LetterRun
   Big : LetterRun
   Long : LetterRun
   Mixed : (digits : ℕ) → LetterRun
@@ -45,7 +45,7 @@ abbrev pub letter_run_of : List ℕ → LetterRun
 letter_run_of run = if is_ascii_digit (slice_index run 0) then number_run run else word_run run
 
 -- the signs of one byte
-unfoldable pub sign_of : ℕ → Option TokenKind
+unfoldable pub sign_of : ℕ → Option Kind
 sign_of b =
     if b == 40 then Some kind.LParen else (if b == 41 then Some kind.RParen
     else (if b == 91 then Some kind.LBracket else (if b == 93 then Some kind.RBracket
@@ -59,7 +59,7 @@ sign_of b =
 
 -- two bytes, classified: == != <= >= << >>, or `//`, which starts a comment
 pub data BytePair : Type 0 where
-  Two : (k : TokenKind) → BytePair
+  Two : (k : Kind) → BytePair
   Slashes : BytePair
   Apart : BytePair
 

@@ -1,14 +1,14 @@
 -- The places of the tokens of a text (this project's profile).
 use Rattle.std.specs.Prelude.{◌≡◌, ℕ, ◌+◌, ◌<◌, ◌≤◌, List, [], ◌∷◌, take, drop, Some}
-use Rattle.src_lexer.specs.declared.tokens.TokenKind.{TokenKind}
+use Rattle.src_lexer.specs.declared.tokens.Kind.{Kind}
 use Rattle.src_lexer.specs.declared.tokens.Token.{Token}
 use Rattle.src_lexer.specs.Pieces.{Is, letter_run_of, sign_of, Two, pair_of}
 
 -- these bytes are the text of a token of this kind
-pub data Spelled : List ℕ → TokenKind → Type 0 where
-  ByRun : (bytes : List ℕ) (k : TokenKind) → letter_run_of bytes ≡ Is k → Spelled bytes k
-  ByOne : (b : ℕ) (k : TokenKind) → sign_of b ≡ Some k → Spelled (b ∷ []) k
-  ByTwo : (a b : ℕ) (k : TokenKind) → pair_of a b ≡ Two k → Spelled (a ∷ b ∷ []) k
+pub data Spelled : List ℕ → Kind → Type 0 where
+  ByRun : (bytes : List ℕ) (k : Kind) → letter_run_of bytes ≡ Is k → Spelled bytes k
+  ByOne : (b : ℕ) (k : Kind) → sign_of b ≡ Some k → Spelled (b ∷ []) k
+  ByTwo : (a b : ℕ) (k : Kind) → pair_of a b ≡ Two k → Spelled (a ∷ b ∷ []) k
 
 -- the spans of tokens are in order between two bytes, and none is empty
 abbrev pub InOrder : ℕ → ℕ → List Token → Type 0

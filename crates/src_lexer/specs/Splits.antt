@@ -3,7 +3,7 @@
 use Rattle.std.specs.Prelude.{◌≡◌, ◌⊎◌, ℕ, ◌+◌, ◌<◌, Bool, true, false, List, [], ◌∷◌, ◌++◌, length, slice_index, Some, None, Result, Ok, Err}
 use Rattle.std.specs.List.{list_all}
 use Rattle.gr_word.specs.Names.{is_name_byte}
-use Rattle.src_lexer.specs.declared.tokens.TokenKind.{TokenKind}
+use Rattle.src_lexer.specs.declared.tokens.Kind.{Kind}
 use Rattle.src_lexer.specs.declared.tokens.Token.{Token}
 use Rattle.src_lexer.specs.declared.errors.LexError.{LexError}
 use Rattle.src_lexer.specs.Pieces.{is_white, is_in_line, Is, Big, Long, Mixed, letter_run_of, sign_of, Two, Slashes, Apart, pair_of}
@@ -23,7 +23,7 @@ abbrev pub with_tokens : List Token → Lexed → Lexed
 with_tokens [] reading = reading
 with_tokens (token ∷ tokens) reading = with_token token (with_tokens tokens reading)
 
-abbrev pub token_at : TokenKind → ℕ → ℕ → Token
+abbrev pub token_at : Kind → ℕ → ℕ → Token
 token_at k at size = record { kind = k; start = at; len = size }
 
 -- a longest run of such bytes, before the rest of a text
@@ -47,15 +47,15 @@ pub data Splits : (at : ℕ) → List ℕ → Lexed → Type 0 where
       → StartsSign a → pair_of a b ≡ Slashes → IsLongest is_in_line line rest
       → Splits (at + (2 + length line)) rest reading → Splits at (a ∷ b ∷ (line ++ rest)) reading
   -- a longest run of letters, digits and `_`: a keyword, a name or a number
-  Word : {at : ℕ} {rest : List ℕ} {reading : Lexed} (k : TokenKind) (run : List ℕ)
+  Word : {at : ℕ} {rest : List ℕ} {reading : Lexed} (k : Kind) (run : List ℕ)
       → 0 < length run → IsLongest is_name_byte run rest → letter_run_of run ≡ Is k
       → Splits (at + length run) rest reading
       → Splits at (run ++ rest) (with_token (token_at k at (length run)) reading)
   -- a sign of two bytes
-  Double : {at : ℕ} {rest : List ℕ} {reading : Lexed} (k : TokenKind) (a b : ℕ) → StartsSign a → pair_of a b ≡ Two k →
+  Double : {at : ℕ} {rest : List ℕ} {reading : Lexed} (k : Kind) (a b : ℕ) → StartsSign a → pair_of a b ≡ Two k →
       Splits (at + 2) rest reading → Splits at (a ∷ b ∷ rest) (with_token (token_at k at 2) reading)
   -- a sign of one byte, which is neither a longer sign nor a comment together with the next byte
-  Single : {at : ℕ} {rest : List ℕ} {reading : Lexed} (k : TokenKind) (b : ℕ)
+  Single : {at : ℕ} {rest : List ℕ} {reading : Lexed} (k : Kind) (b : ℕ)
       → StartsSign b → sign_of b ≡ Some k → pair_of b (slice_index rest 0) ≡ Apart
       → Splits (at + 1) rest reading → Splits at (b ∷ rest) (with_token (token_at k at 1) reading)
   -- a number above 2^63 - 1

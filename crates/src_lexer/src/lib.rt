@@ -18,4 +18,4 @@ pub mod tokens;
 pub use errors::LexError;
 pub use lexer::Lexer;
 pub use lexing::lex;
-pub use tokens::{Token, TokenKind};
+pub use tokens::{Kind, Token};

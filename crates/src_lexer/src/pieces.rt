@@ -10,14 +10,14 @@ use crate::errors::LexError;
 use crate::known_names::KnownNames;
 use crate::runs::{Run, classify};
 use crate::signs::{Pair, single, together};
-use crate::tokens::TokenKind;
+use crate::tokens::Kind;
 use std::alloc::Global;
 
 // The first piece of a text: white space or a comment with this number of bytes, or a token with this number of bytes.
 #[derive(Drop)]
 pub(crate) enum Piece {
     Skipped(usize),
-    Known(TokenKind, usize),
+    Known(Kind, usize),
 }
 
 fn white(byte: u8) -> bool

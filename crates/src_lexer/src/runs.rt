@@ -6,7 +6,7 @@ ghost use Rattle.src_lexer.specs.Pieces.{number_run, word_run, letter_run_of, Is
 ghost use Rattle.src_lexer.specs.Seen.{run_seen, MixedWithin};
 
 use crate::known_names::KnownNames;
-use crate::tokens::TokenKind;
+use crate::tokens::Kind;
 use gr_base::Memory;
 use gr_base::numerals::number_capped;
 use std::alloc::Global;
@@ -14,7 +14,7 @@ use std::alloc::Global;
 // A run of letters, digits and `_`, classified.
 #[derive(Drop)]
 pub(crate) enum Run {
-    Is(TokenKind),
+    Is(Kind),
     Big,
     Long,
     Mixed(usize),
@@ -45,7 +45,7 @@ fn number(run: &[u8]) -> Run
         return Run::Big;
     }
     if count == run.len() {
-        return Run::Is(TokenKind::Num(value as i64));
+        return Run::Is(Kind::Num(value as i64));
     }
     Run::Mixed(count)
 }
@@ -58,7 +58,7 @@ fn one_digit(run: &[u8]) -> Run
     ensures value { run_seen result ≡ number_run run.now }
     ensures within { MixedWithin (length run.now) result }
 {
-    Run::Is(TokenKind::Num(i64::from(run[0] - b'0')))
+    Run::Is(Kind::Num(i64::from(run[0] - b'0')))
 }
 
 // Whether two words are equal.
@@ -76,27 +76,27 @@ fn word<'a>(alloc: Global, names: &mut KnownNames<'a>, run: &'a [u8]) -> Result<
     ensures within { IfOk result (MixedWithin (length run.now)) }
 {
     if same(run, b"public") {
-        return Ok(Run::Is(TokenKind::Public));
+        return Ok(Run::Is(Kind::Public));
     }
     if same(run, b"secret") {
-        return Ok(Run::Is(TokenKind::Secret));
+        return Ok(Run::Is(Kind::Secret));
     }
     if same(run, b"int") {
-        return Ok(Run::Is(TokenKind::Int));
+        return Ok(Run::Is(Kind::Int));
     }
     if same(run, b"if") {
-        return Ok(Run::Is(TokenKind::If));
+        return Ok(Run::Is(Kind::If));
     }
     if same(run, b"else") {
-        return Ok(Run::Is(TokenKind::Else));
+        return Ok(Run::Is(Kind::Else));
     }
     if same(run, b"while") {
-        return Ok(Run::Is(TokenKind::While));
+        return Ok(Run::Is(Kind::While));
     }
     if run.len() > NAME_BYTES {
         return Ok(Run::Long);
     }
-    Ok(Run::Is(TokenKind::Word(names.name_of(alloc, run)?)))
+    Ok(Run::Is(Kind::Word(names.name_of(alloc, run)?)))
 }
 
 // Classifies a run.

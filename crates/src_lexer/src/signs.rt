@@ -2,40 +2,40 @@ ghost use Rattle.std.specs.Prelude.{◌≡◌};
 ghost use Rattle.src_lexer.specs.Pieces.{sign_of, pair_of};
 ghost use Rattle.src_lexer.specs.Seen.{pair_seen};
 
-use crate::tokens::TokenKind;
+use crate::tokens::Kind;
 
 // Two bytes together: a sign, the start of a comment, or neither.
 #[derive(Drop)]
 pub(crate) enum Pair {
-    Two(TokenKind),
+    Two(Kind),
     Slashes,
     Apart,
 }
 
 // The sign that consists of this byte.
 #[tactic(auto, unfolding(crate::specs::Pieces::sign_of))]
-pub(crate) fn single(byte: u8) -> Option<TokenKind>
+pub(crate) fn single(byte: u8) -> Option<Kind>
     ensures { result ≡ sign_of byte }
 {
     match byte {
-        b'(' => Some(TokenKind::LParen),
-        b')' => Some(TokenKind::RParen),
-        b'[' => Some(TokenKind::LBracket),
-        b']' => Some(TokenKind::RBracket),
-        b'{' => Some(TokenKind::LBrace),
-        b'}' => Some(TokenKind::RBrace),
-        b';' => Some(TokenKind::Semi),
-        b'=' => Some(TokenKind::Assign),
-        b'<' => Some(TokenKind::Lt),
-        b'>' => Some(TokenKind::Gt),
-        b'+' => Some(TokenKind::Plus),
-        b'-' => Some(TokenKind::Minus),
-        b'*' => Some(TokenKind::Star),
-        b'/' => Some(TokenKind::Slash),
-        b'%' => Some(TokenKind::Percent),
-        b'&' => Some(TokenKind::Amp),
-        b'|' => Some(TokenKind::Bar),
-        b'^' => Some(TokenKind::Caret),
+        b'(' => Some(Kind::LParen),
+        b')' => Some(Kind::RParen),
+        b'[' => Some(Kind::LBracket),
+        b']' => Some(Kind::RBracket),
+        b'{' => Some(Kind::LBrace),
+        b'}' => Some(Kind::RBrace),
+        b';' => Some(Kind::Semi),
+        b'=' => Some(Kind::Assign),
+        b'<' => Some(Kind::Lt),
+        b'>' => Some(Kind::Gt),
+        b'+' => Some(Kind::Plus),
+        b'-' => Some(Kind::Minus),
+        b'*' => Some(Kind::Star),
+        b'/' => Some(Kind::Slash),
+        b'%' => Some(Kind::Percent),
+        b'&' => Some(Kind::Amp),
+        b'|' => Some(Kind::Bar),
+        b'^' => Some(Kind::Caret),
         _ => None,
     }
 }
@@ -47,10 +47,10 @@ pub(crate) fn together(first: u8, second: u8) -> Pair
 {
     if second == b'=' {
         return match first {
-            b'=' => Pair::Two(TokenKind::Eq),
-            b'!' => Pair::Two(TokenKind::Ne),
-            b'<' => Pair::Two(TokenKind::Le),
-            b'>' => Pair::Two(TokenKind::Ge),
+            b'=' => Pair::Two(Kind::Eq),
+            b'!' => Pair::Two(Kind::Ne),
+            b'<' => Pair::Two(Kind::Le),
+            b'>' => Pair::Two(Kind::Ge),
             _ => Pair::Apart,
         };
     }
@@ -58,8 +58,8 @@ pub(crate) fn together(first: u8, second: u8) -> Pair
         return Pair::Apart;
     }
     match first {
-        b'<' => Pair::Two(TokenKind::Shl),
-        b'>' => Pair::Two(TokenKind::Shr),
+        b'<' => Pair::Two(Kind::Shl),
+        b'>' => Pair::Two(Kind::Shr),
         b'/' => Pair::Slashes,
         _ => Pair::Apart,
     }

@@ -3,7 +3,7 @@ use gr_word::Name;
 /// The kind of a token: a keyword, a sign, a number or a name of the source language. The comparisons are in the order
 /// of [`gr_word::Cmp`].
 #[derive(Debug, Drop)]
-pub enum TokenKind {
+pub enum Kind {
     Public,
     Secret,
     Int,
@@ -41,7 +41,7 @@ pub enum TokenKind {
 /// A token of a source text: its kind, the place of its first byte, and its number of bytes.
 #[derive(Debug, Drop)]
 pub struct Token {
-    pub kind: TokenKind,
+    pub kind: Kind,
     pub start: u32,
     pub len: u32,
 }

@@ -1,17 +1,19 @@
 -- An assignment that is read in one go is read as its tokens are, one by one.
-use Rattle.std.proofs.Common.{◌≡◌, ℕ, ◌+◌, ◌-◌, ◌≤◌, suc, List, [], ◌∷◌, ◌++◌, length, take, drop, get_or, sym, ap, ◌∙◌, subst, append_assoc, arith}
+use Rattle.std.proofs.Common.{◌≡◌, ℕ, ◌+◌, ◌-◌, ◌<◌, ◌≤◌, suc, List, [], ◌∷◌, ◌++◌, length, take, drop, get_or, sym, ap, ◌∙◌, subst, append_assoc, arith}
 use Rattle.std.proofs.Math.Seq.{take-add}
 use Rattle.std.proofs.lemmas.List.{length-append, length-map, length-take-le, map-append, take_all}
 use Rattle.src_lexer.specs.declared.tokens.Token.{Token}
-use Rattle.src_lexer.specs.declared.tokens.TokenKind.{TokenKind}
+use Rattle.src_lexer.specs.declared.tokens.Kind.{Kind}
 use Rattle.src_tree.specs.declared.trees.Decl.{Decl}
 use Rattle.src_tree.specs.Prelude.{Tree, Statement, SetVariable, SetElement}
-use Rattle.src_parser.specs.Prelude.{limits, operators, SpellsTree, Numeral, Named, Indexed, Bracketed, Negated, Joined, token_kinds, PartState, in_expression, Outer, Among, Ready, with_part, Advance, mapped, then_advance, advances, ParserState, Doing, programs, advanced, EndedBy, Adds}
+use Rattle.src_parser.specs.Prelude.{limits, operators, SpellsTree, Numeral, Named, Indexed, Bracketed, Negated, Joined, token_kinds, PartState, in_expression, Outer, Among, Ready, with_part, Advance, mapped, then_advance, advances, ParserState, Doing, programs, advanced, EndedBy, Adds, FoundExpression}
+use Rattle.src_parser.specs.Assignments.{Assigned}
+use Rattle.src_parser.proofs.TokenPlaces.{kinds_more}
 use Rattle.src_parser.proofs.PartRead.{PartRuns, variable_read, element_read}
-use Rattle.src_lexer.specs.declared.tokens.TokenKind.TheVariants as kind
+use Rattle.src_lexer.specs.declared.tokens.Kind.TheVariants as kind
 
 -- an expression has no more operators than tokens
-few_operators : {most depth level : ℕ} {tokens : List TokenKind} {tree : Tree} → SpellsTree most depth level tokens tree
+few_operators : {most depth level : ℕ} {tokens : List Kind} {tree : Tree} → SpellsTree most depth level tokens tree
     → operators tree ≤ length tokens
 few_operators (Numeral n) = omega arith
 few_operators (Named name) = omega arith
@@ -27,7 +29,25 @@ few_operators (Joined {left = left} {right = right} op sign low is a b) =
     let few = few_operators b in
     let all = length-append left (sign ∷ right) in omega arith
 
-few_before : (last : TokenKind) (opened used : ℕ) (tokens : List TokenKind) (tree : Tree)
+-- the kinds of some tokens and of the token after them
+pub kinds_with : (tokens : List Token) (i : ℕ) (token : Token) (k : Kind) → i < length tokens
+    → token ≡ get_or tokens i token → token.kind ≡ k
+    → token_kinds (take (i + 1) tokens) ≡ token_kinds (take i tokens) ++ k ∷ []
+kinds_with tokens i token k h is same =
+    kinds_more tokens i token h is ∙ ap (λ k. token_kinds (take i tokens) ++ k ∷ []) same
+
+-- an expression, and the token after it
+pub ended_by : (last : Kind) (tokens : List Token) (opened used count : ℕ) (tree : Tree)
+    → FoundExpression tokens opened used tree count
+    → token_kinds (take (count + 1) tokens) ≡ token_kinds (take count tokens) ++ last ∷ []
+    → EndedBy last opened used (token_kinds (take (count + 1) tokens)) tree
+ended_by last tokens opened used count tree found split = record {
+  front = token_kinds (take count tokens);
+  split = split;
+  is = found.is;
+}
+
+few_before : (last : Kind) (opened used : ℕ) (tokens : List Kind) (tree : Tree)
     → EndedBy last opened used tokens tree → operators tree ≤ length tokens
 few_before last opened used tokens tree e =
     let few = few_operators e.is.spells in
@@ -35,7 +55,7 @@ few_before last opened used tokens tree e =
     let all = length-append e.front (last ∷ []) in omega arith
 
 -- the parser's advance after a part of a statement
-abbrev part_read : List Decl → List (Outer Statement) → List Statement → PartState → List TokenKind
+abbrev part_read : List Decl → List (Outer Statement) → List Statement → PartState → List Kind
     → Advance ParserState
 part_read decls outer here s ks = advances advanced limits (Doing decls (with_part programs outer here s)) ks
 
@@ -50,7 +70,7 @@ part_runs decls outer here = record {
       (λ next. advances advanced limits next ks)) e;
 }
 
-variable_adds : (name : List ℕ) (tokens : List TokenKind) (value : Tree) → EndedBy kind.Semi 0 0 tokens value
+variable_adds : (name : List ℕ) (tokens : List Kind) (value : Tree) → EndedBy kind.Semi 0 0 tokens value
     → Adds (kind.Word name ∷ kind.Assign ∷ tokens) (SetVariable name value)
 variable_adds name tokens value e = record {
   leads = λ decls outer here. record {
@@ -63,14 +83,14 @@ variable_adds name tokens value e = record {
 }
 
 -- an assignment to a variable, with a copy of its name
-pub variable_at : (name copied : List ℕ) (tokens : List TokenKind) (value : Tree) (statement : Statement)
+pub variable_at : (name copied : List ℕ) (tokens : List Kind) (value : Tree) (statement : Statement)
     → copied ≡ name → statement ≡ SetVariable copied value → EndedBy kind.Semi 0 0 tokens value
     → Adds (kind.Word name ∷ kind.Assign ∷ tokens) statement
 variable_at name copied tokens value statement same is e =
     subst (λ s. Adds (kind.Word name ∷ kind.Assign ∷ tokens) s) (sym (is ∙ ap (λ n. SetVariable n value) same))
     (variable_adds name tokens value e)
 
-element_adds : (name : List ℕ) (at tokens : List TokenKind) (index value : Tree) (used : ℕ)
+element_adds : (name : List ℕ) (at tokens : List Kind) (index value : Tree) (used : ℕ)
     → EndedBy kind.RBracket 1 0 at index → EndedBy kind.Semi 0 used tokens value → operators index ≤ used
     → Adds (kind.Word name ∷ kind.LBracket ∷ (at ++ kind.Assign ∷ tokens)) (SetElement name index value)
 element_adds name at tokens index value used i e few = record {
@@ -110,56 +130,52 @@ two_of (token ∷ []) first second h is also = absurd (omega arith)
 two_of (token ∷ other ∷ tokens) first second h is also =
     ap (λ t. t ∷ other ∷ tokens) (sym is) ∙ ap (λ t. first ∷ t ∷ tokens) (sym also)
 
--- the tokens of an index and its `]`, a token, and the tokens of a value and its `;`
-element_whole : (name : List ℕ) (tokens rest : List Token) (sign : Token) (inside count : ℕ) (index value : Tree)
-    → inside ≤ length tokens → drop inside tokens ≡ sign ∷ rest → sign.kind ≡ kind.Assign
+-- a `=`, and the tokens of a value and its `;`
+pub assigned_at : (tokens : List Token) (sign : Token) (used count : ℕ) (value : Tree) → 1 ≤ length tokens
+    → sign ≡ get_or tokens 0 sign → sign.kind ≡ kind.Assign
+    → EndedBy kind.Semi 0 used (token_kinds (take count (take (length tokens - 1) (drop 1 tokens)))) value
+    → Assigned used (token_kinds (take (count + 1) tokens)) value
+assigned_at tokens sign used count value some at is e = record {
+  rest = token_kinds (take count (drop 1 tokens));
+  split = (let more : count + 1 ≡ suc count = omega arith in
+      ap (λ ts. token_kinds (take (count + 1) ts)) (front_of tokens sign some at)
+      ∙ (ap (λ n. token_kinds (take n (sign ∷ drop 1 tokens))) more
+      ∙ ap (λ k. k ∷ token_kinds (take count (drop 1 tokens))) is));
+  is = subst (λ ts. EndedBy kind.Semi 0 used (token_kinds (take count ts)) value) (behind_one tokens some) e;
+}
+
+-- the tokens of an index and its `]`, and those of a value between a `=` and a `;`
+pub element_at : (name : List ℕ) (tokens after : List Token) (inside count : ℕ) (index value : Tree)
+    (statement : Statement) → statement ≡ SetElement name index value → inside ≤ length tokens
+    → after ≡ drop inside tokens
     → EndedBy kind.RBracket 1 0 (token_kinds (take inside tokens)) index
-    → EndedBy kind.Semi 0 inside (token_kinds (take count rest)) value
-    → Adds (kind.Word name ∷ kind.LBracket ∷ token_kinds (take (inside + (count + 1)) tokens))
-    (SetElement name index value)
-element_whole name tokens rest sign inside count index value h split is i e =
+    → Assigned inside (token_kinds (take count after)) value
+    → Adds (kind.Word name ∷ kind.LBracket ∷ token_kinds (take (inside + count) tokens)) statement
+element_at name tokens after inside count index value statement made h behind i e =
     let few = few_before kind.RBracket 1 0 (token_kinds (take inside tokens)) index i in
     let kinds = length-map (take inside tokens) (λ (t : Token). t.kind) in
     let all = length-take-le inside tokens h in
-    let more : count + 1 ≡ suc count = omega arith in
-    let after : take (count + 1) (drop inside tokens) ≡ sign ∷ take count rest =
-    ap (take (count + 1)) split ∙ ap (λ n. take n (sign ∷ rest)) more in
-    let whole : token_kinds (take (inside + (count + 1)) tokens)
-    ≡ token_kinds (take inside tokens) ++ kind.Assign ∷ token_kinds (take count rest) =
-    ap token_kinds (take-add inside (count + 1) tokens ∙ ap (λ ts. take inside tokens ++ ts) after)
-    ∙ (map-append (λ (t : Token). t.kind) (take inside tokens) (sign ∷ take count rest)
-    ∙ ap (λ k. token_kinds (take inside tokens) ++ k ∷ token_kinds (take count rest)) is) in
-    subst (λ ts. Adds (kind.Word name ∷ kind.LBracket ∷ ts) (SetElement name index value)) (sym whole)
-    (element_adds name (token_kinds (take inside tokens)) (token_kinds (take count rest)) index value inside i e
-    (omega arith))
-
--- an assignment to an element, with a copy of its name
-pub element_at : (name copied : List ℕ) (tokens after : List Token) (sign : Token) (inside count : ℕ)
-    (index value : Tree) (statement : Statement) → copied ≡ name → statement ≡ SetElement copied index value
-    → inside ≤ length tokens → after ≡ drop inside tokens → 1 ≤ length after
-    → sign ≡ get_or after 0 sign → sign.kind ≡ kind.Assign
-    → EndedBy kind.RBracket 1 0 (token_kinds (take inside tokens)) index
-    → EndedBy kind.Semi 0 inside (token_kinds (take count (take (length after - 1) (drop 1 after)))) value
-    → Adds (kind.Word name ∷ kind.LBracket ∷ token_kinds (take (inside + (count + 1)) tokens)) statement
-element_at name copied tokens after sign inside count index value statement same made h behind some at is i e =
-    subst (λ s. Adds (kind.Word name ∷ kind.LBracket ∷ token_kinds (take (inside + (count + 1)) tokens)) s)
-    (sym (made ∙ ap (λ n. SetElement n index value) same))
-    (element_whole name tokens (drop 1 after) sign inside count index value h
-    (sym behind ∙ front_of after sign some at) is i
-    (subst (λ ts. EndedBy kind.Semi 0 inside (token_kinds (take count ts)) value) (behind_one after some) e))
+    let rest : token_kinds (take count (drop inside tokens)) ≡ kind.Assign ∷ e.rest =
+    ap (λ ts. token_kinds (take count ts)) (sym behind) ∙ e.split in
+    let whole : token_kinds (take (inside + count) tokens) ≡ token_kinds (take inside tokens) ++ kind.Assign ∷ e.rest =
+    ap token_kinds (take-add inside count tokens)
+    ∙ (map-append (λ (t : Token). t.kind) (take inside tokens) (take count (drop inside tokens))
+    ∙ ap (λ ks. token_kinds (take inside tokens) ++ ks) rest) in
+    subst (λ ts. Adds (kind.Word name ∷ kind.LBracket ∷ ts) statement) (sym whole)
+    (subst (λ s. Adds (kind.Word name ∷ kind.LBracket ∷ (token_kinds (take inside tokens) ++ kind.Assign ∷ e.rest)) s)
+    (sym made) (element_adds name (token_kinds (take inside tokens)) e.rest index value inside i e.is (omega arith)))
 
 -- an assignment that begins with a name and a sign
-pub assignment_at : (tokens : List Token) (first second : Token) (name : List ℕ) (sign : TokenKind) (count : ℕ)
-    (statement : Statement) → 2 ≤ length tokens → first ≡ get_or tokens 0 first → second ≡ get_or tokens 1 second
-    → first.kind ≡ kind.Word name → second.kind ≡ sign
-    → Adds (kind.Word name ∷ sign ∷ token_kinds (take count (take (length tokens - 2) (drop 2 tokens)))) statement
+pub assignment_at : (tokens : List Token) (first second : Token) (name : List ℕ) (count : ℕ) (statement : Statement)
+    → 2 ≤ length tokens → first ≡ get_or tokens 0 first → second ≡ get_or tokens 1 second → first.kind ≡ kind.Word name
+    → Adds (kind.Word name ∷ second.kind ∷ token_kinds (take count (take (length tokens - 2) (drop 2 tokens)))) statement
     → Adds (token_kinds (take (count + 2) tokens)) statement
-assignment_at tokens first second name sign count statement h at next named signed adds =
+assignment_at tokens first second name count statement h at next named adds =
     let more : count + 2 ≡ suc (suc count) = omega arith in
-    let whole : token_kinds (take (count + 2) tokens) ≡ kind.Word name ∷ sign ∷ token_kinds (take count (drop 2 tokens)) =
+    let whole : token_kinds (take (count + 2) tokens)
+    ≡ kind.Word name ∷ second.kind ∷ token_kinds (take count (drop 2 tokens)) =
     ap (λ ts. token_kinds (take (count + 2) ts)) (two_of tokens first second h at next)
     ∙ (ap (λ n. token_kinds (take n (first ∷ second ∷ drop 2 tokens))) more
-    ∙ (ap (λ k. k ∷ second.kind ∷ token_kinds (take count (drop 2 tokens))) named
-    ∙ ap (λ k. kind.Word name ∷ k ∷ token_kinds (take count (drop 2 tokens))) signed)) in
+    ∙ ap (λ k. k ∷ second.kind ∷ token_kinds (take count (drop 2 tokens))) named) in
     subst (λ ts. Adds ts statement) (sym whole)
-    (subst (λ ts. Adds (kind.Word name ∷ sign ∷ token_kinds (take count ts)) statement) (behind_two tokens h) adds)
+    (subst (λ ts. Adds (kind.Word name ∷ second.kind ∷ token_kinds (take count ts)) statement) (behind_two tokens h) adds)

@@ -3,12 +3,12 @@
 use Rattle.std.proofs.Common.{◌≡◌, ℕ, ◌+◌, ◌<◌, pos, Bool, true, false, List, Option, Some, None, refl, sym, ap, ◌∙◌}
 use Rattle.std.specs.Prelude.{nat_lt}
 use Rattle.std.proofs.lemmas.Bool.{ltb-true}
-use Rattle.src_lexer.specs.declared.tokens.TokenKind.{TokenKind}
+use Rattle.src_lexer.specs.declared.tokens.Kind.{Kind}
 use Rattle.src_tree.specs.Prelude.{Tree}
 use Rattle.src_parser.specs.Prelude.{Limits, comparison_of, Reading, At, Wanted, Given, TokenStep, Moves, Stops, Deep, Joint, Joins, closing, reads, whole, used_of, Advance, Goes, Wrong, TooMuch, mapped, with_braces, Form, Asked, Value, Place, Stored, Left, Right, Part, Target, Placed, Guarding, Inside, PartState, targeting, placing, guarding, comparing, behind_expression, ending_where, in_expression, part_advanced, Heading, Labelled, Typed, Titled, Sizing, Sized, Closing, HeadingState, heading_advanced}
 use Rattle.src_parser.specs.Operands.{Named}
 use Rattle.src_parser.proofs.Tokenwise.{Counted}
-use Rattle.src_lexer.specs.declared.tokens.TokenKind.TheVariants as kind
+use Rattle.src_lexer.specs.declared.tokens.Kind.TheVariants as kind
 
 pub same_state : {S : Type 0} (x y : S) → ◌≡◌ {A = Advance S} (Goes x) (Goes y) → x ≡ y
 same_state x y e = cc
@@ -43,29 +43,29 @@ reads_right most (At stack depth used Wanted) y e = cc
 reads_right most (At stack depth used (Named name)) y e = closing_right used _ y e
 reads_right most (At stack depth used (Given tree)) y e = closing_right used _ y e
 
-pub moves_counted : (most : Limits) (x y : Reading) (k : TokenKind) (count after : ℕ)
+pub moves_counted : (most : Limits) (x y : Reading) (k : Kind) (count after : ℕ)
     → reads most x k ≡ Moves y → after ≡ count → Counted k most.braces count after
 moves_counted most x y kind.LBrace count after e is = absurd (reads_left most x y e)
 moves_counted most x y kind.RBrace count after e is = absurd (reads_right most x y e)
 moves_counted most x y _ count after e is = is
 
-pub targeting_counted : (most : ℕ) (name : List ℕ) (k : TokenKind) (s : PartState) (count after : ℕ)
+pub targeting_counted : (most : ℕ) (name : List ℕ) (k : Kind) (s : PartState) (count after : ℕ)
     → targeting name k ≡ Goes s → after ≡ count → Counted k most count after
 targeting_counted most name kind.Assign s count after e is = is
 targeting_counted most name kind.LBracket s count after e is = is
 targeting_counted most name _ s count after e is = absurd (cc)
 
-placing_counted : (most : ℕ) (name : List ℕ) (index : Tree) (used : ℕ) (k : TokenKind) (s : PartState)
+placing_counted : (most : ℕ) (name : List ℕ) (index : Tree) (used : ℕ) (k : Kind) (s : PartState)
     (count after : ℕ) → placing name index used k ≡ Goes s → after ≡ count → Counted k most count after
 placing_counted most name index used kind.Assign s count after e is = is
 placing_counted most name index used _ s count after e is = absurd (cc)
 
-guarding_counted : (most : ℕ) (form : Form) (k : TokenKind) (s : PartState) (count after : ℕ)
+guarding_counted : (most : ℕ) (form : Form) (k : Kind) (s : PartState) (count after : ℕ)
     → guarding form k ≡ Goes s → after ≡ count → Counted k most count after
 guarding_counted most form kind.LParen s count after e is = is
 guarding_counted most form _ s count after e is = absurd (cc)
 
-comparing_counted : (most : ℕ) (form : Form) (left : Tree) (used : ℕ) (k : TokenKind) (s : PartState)
+comparing_counted : (most : ℕ) (form : Form) (left : Tree) (used : ℕ) (k : Kind) (s : PartState)
     (count after : ℕ) → comparing form left used (comparison_of k) ≡ Goes s → after ≡ count
     → Counted k most count after
 comparing_counted most form left used kind.Eq s count after e is = is
@@ -76,7 +76,7 @@ comparing_counted most form left used kind.Gt s count after e is = is
 comparing_counted most form left used kind.Ge s count after e is = is
 comparing_counted most form left used _ s count after e is = absurd (cc)
 
-ending_counted : (most : ℕ) (asked : Asked) (tree : Tree) (used : ℕ) (k : TokenKind) (s : PartState)
+ending_counted : (most : ℕ) (asked : Asked) (tree : Tree) (used : ℕ) (k : Kind) (s : PartState)
     (count after : ℕ) → behind_expression asked tree used k ≡ Goes s → after ≡ count → Counted k most count after
 ending_counted most (Value name) tree used kind.Semi s count after e is = is
 ending_counted most (Place name) tree used kind.RBracket s count after e is = is
@@ -86,13 +86,13 @@ ending_counted most (Left form) tree used k s count after e is =
 ending_counted most (Right form cmp left) tree used kind.RParen s count after e is = is
 ending_counted most other tree used _ s count after e is = absurd (cc)
 
-ending_where_counted : (most : ℕ) (asked : Asked) (o : Option Tree) (used : ℕ) (k : TokenKind) (s : PartState)
+ending_where_counted : (most : ℕ) (asked : Asked) (o : Option Tree) (used : ℕ) (k : Kind) (s : PartState)
     (count after : ℕ) → ending_where asked o used k ≡ Goes s → after ≡ count → Counted k most count after
 ending_where_counted most asked None used k s count after e is = absurd (cc)
 ending_where_counted most asked (Some tree) used k s count after e is =
     ending_counted most asked tree used k s count after e is
 
-inside_counted : (most : Limits) (asked : Asked) (x : Reading) (k : TokenKind) (step : TokenStep)
+inside_counted : (most : Limits) (asked : Asked) (x : Reading) (k : Kind) (step : TokenStep)
     → reads most x k ≡ step → (s : PartState) (count after : ℕ) → in_expression asked k step ≡ Goes s
     → after ≡ count → Counted k most.braces count after
 inside_counted most asked x k (Moves y) r s count after e is = moves_counted most x y k count after r is
@@ -100,7 +100,7 @@ inside_counted most asked x k (Stops y) r s count after e is =
     ending_where_counted most.braces asked (whole y) (used_of y) k s count after e is
 inside_counted most asked x k Deep r s count after e is = absurd (cc)
 
-pub part_counted : (most : Limits) (part : Part) (k : TokenKind) (s : PartState) (count after : ℕ)
+pub part_counted : (most : Limits) (part : Part) (k : Kind) (s : PartState) (count after : ℕ)
     → part_advanced most part k ≡ Goes s → after ≡ count → Counted k most.braces count after
 part_counted most (Target name) k s count after e is = targeting_counted most.braces name k s count after e is
 part_counted most (Placed name index used) k s count after e is =
@@ -109,7 +109,7 @@ part_counted most (Guarding form) k s count after e is = guarding_counted most.b
 part_counted most (Inside asked x) k s count after e is =
     inside_counted most asked x k (reads most x k) refl s count after e is
 
-pub heading_counted : (most : ℕ) (heading : Heading) (k : TokenKind) (s : HeadingState) (count after : ℕ)
+pub heading_counted : (most : ℕ) (heading : Heading) (k : Kind) (s : HeadingState) (count after : ℕ)
     → heading_advanced heading k ≡ Goes s → after ≡ count → Counted k most count after
 heading_counted most (Labelled label) kind.Int s count after e is = is
 heading_counted most (Typed label) (kind.Word name) s count after e is = is

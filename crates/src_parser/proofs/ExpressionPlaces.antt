@@ -6,7 +6,7 @@ use Rattle.src_tree.specs.Prelude.{Tree}
 use Rattle.src_parser.specs.Prelude.{limits, token_kinds, Reading, TokenStep, Moves, Stops, Deep, reads, whole, IsExpression, ExpressionBegins, FoundExpression, StrayToken, TokenTooDeep, CutExpression, reads_all, left_whole, ended}
 use Rattle.src_parser.proofs.TokenPlaces.{split_at, kinds_more}
 use Rattle.src_parser.proofs.ReadTokens.{first, begins, is_expression, stops_all, deep_none, unfinished, alike, one_more, wider}
-use Rattle.src_lexer.specs.declared.tokens.TokenKind.TheVariants as kind
+use Rattle.src_lexer.specs.declared.tokens.Kind.TheVariants as kind
 
 -- a token that is read
 pub goes_at : (tokens : List Token) (opened used i : ℕ) (token : Token) (x y : Reading)

@@ -1,21 +1,21 @@
 -- Each state of a declaration has read some tokens, and these can be completed to a declaration.
 use Rattle.std.proofs.Common.{◌≡◌, ℕ, pos, List, [], ◌∷◌, ◌++◌, Some, None, subst}
 use Rattle.gr_word.specs.declared.variables.Label.{Label}
-use Rattle.src_lexer.specs.declared.tokens.TokenKind.{TokenKind}
+use Rattle.src_lexer.specs.declared.tokens.Kind.{Kind}
 use Rattle.src_tree.specs.declared.trees.Decl.{Decl}
 use Rattle.src_parser.specs.Prelude.{keyword_of, Declares, NoMore, Scalar, Array, Heading, Labelled, Typed, Titled, Sizing, Sized, Closing, HeadingState, Begun, Declared, declared, heading_advanced, Goes}
 use Rattle.src_parser.proofs.Braces.{same_state}
-use Rattle.src_lexer.specs.declared.tokens.TokenKind.TheVariants as kind
+use Rattle.src_lexer.specs.declared.tokens.Kind.TheVariants as kind
 
 -- declarations and then others
-pub declares_both : {ts us : List TokenKind} {a b : List Decl} → Declares ts a → Declares us b
+pub declares_both : {ts us : List Kind} {a b : List Decl} → Declares ts a → Declares us b
     → Declares (ts ++ us) (a ++ b)
 declares_both NoMore e = e
 declares_both (Scalar label name d) e = Scalar label name (declares_both d e)
 declares_both (Array label name n d) e = Array label name n (declares_both d e)
 
 -- these tokens of a declaration lead to this state
-pub data Heads : Heading → List TokenKind → Type 0 where
+pub data Heads : Heading → List Kind → Type 0 where
   IsLabelled : (label : Label) → Heads (Labelled label) (keyword_of label ∷ [])
   IsTyped : (label : Label) → Heads (Typed label) (keyword_of label ∷ kind.Int ∷ [])
   IsTitled : (label : Label) (name : List ℕ)
@@ -29,16 +29,16 @@ pub data Heads : Heading → List TokenKind → Type 0 where
       → Heads (Closing label name n)
       (keyword_of label ∷ kind.Int ∷ kind.Word name ∷ kind.LBracket ∷ kind.Num (pos n) ∷ kind.RBracket ∷ [])
 
-abbrev pub HeadingStands : HeadingState → List TokenKind → Type 0
+abbrev pub HeadingStands : HeadingState → List Kind → Type 0
 HeadingStands (Begun heading) tokens = Heads heading tokens
 HeadingStands (Declared decl) tokens = Declares tokens (decl ∷ [])
 
-went : (tokens : List TokenKind) (x y : HeadingState) → Goes x ≡ Goes y → HeadingStands x tokens
+went : (tokens : List Kind) (x y : HeadingState) → Goes x ≡ Goes y → HeadingStands x tokens
     → HeadingStands y tokens
 went tokens x y e s = subst (λ z. HeadingStands z tokens) (same_state x y e) s
 
 -- a token of a declaration that is read
-pub heading_steps : {heading : Heading} {tokens : List TokenKind} → Heads heading tokens → (k : TokenKind)
+pub heading_steps : {heading : Heading} {tokens : List Kind} → Heads heading tokens → (k : Kind)
     (s : HeadingState) → heading_advanced heading k ≡ Goes s → HeadingStands s (tokens ++ k ∷ [])
 heading_steps (IsLabelled label) kind.Int s e = went _ _ s e (IsTyped label)
 heading_steps (IsTyped label) (kind.Word name) s e = went _ _ s e (IsTitled label name)
@@ -50,7 +50,7 @@ heading_steps (IsClosing label name n) kind.Semi s e = went _ _ s e (Array label
 heading_steps other _ s e = absurd (cc)
 
 -- what completes a declaration, with a given name if it has none yet
-abbrev pub rest_of : Heading → List ℕ → List TokenKind
+abbrev pub rest_of : Heading → List ℕ → List Kind
 rest_of (Labelled label) x = kind.Int ∷ kind.Word x ∷ kind.Semi ∷ []
 rest_of (Typed label) x = kind.Word x ∷ kind.Semi ∷ []
 rest_of (Titled label name) x = kind.Semi ∷ []
@@ -66,7 +66,7 @@ whole_of (Sizing label name) x = declared label name (Some 1)
 whole_of (Sized label name n) x = declared label name (Some n)
 whole_of (Closing label name n) x = declared label name (Some n)
 
-pub heading_completes : {heading : Heading} {tokens : List TokenKind} → Heads heading tokens → (x : List ℕ)
+pub heading_completes : {heading : Heading} {tokens : List Kind} → Heads heading tokens → (x : List ℕ)
     → Declares (tokens ++ rest_of heading x) (whole_of heading x ∷ [])
 heading_completes (IsLabelled label) x = Scalar label x NoMore
 heading_completes (IsTyped label) x = Scalar label x NoMore

@@ -1,13 +1,13 @@
 -- The levels of operators: an expression of a level is one of each lower level.
 use Rattle.std.proofs.Common.{ℕ, ◌<◌, ◌≤◌, List, arith}
-use Rattle.src_lexer.specs.declared.tokens.TokenKind.{TokenKind}
+use Rattle.src_lexer.specs.declared.tokens.Kind.{Kind}
 use Rattle.gr_word.specs.declared.operations.Op.{Op}
 use Rattle.src_tree.specs.Prelude.{Tree}
 use Rattle.src_parser.specs.Prelude.{SpellsTree, Numeral, Named, Indexed, Bracketed, Negated, Joined, level_of}
 use Rattle.gr_word.specs.declared.operations.Op.TheVariants as op
 
 -- an expression of a level is one of each lower level
-pub lower : {most depth level : ℕ} {tokens : List TokenKind} {tree : Tree} (low : ℕ)
+pub lower : {most depth level : ℕ} {tokens : List Kind} {tree : Tree} (low : ℕ)
     → low ≤ level → SpellsTree most depth level tokens tree → SpellsTree most depth low tokens tree
 lower low le (Numeral n) = Numeral n
 lower low le (Named name) = Named name

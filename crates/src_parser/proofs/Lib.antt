@@ -33,3 +33,4 @@ pub mod LoneTokens
 pub mod RoundTrips
 pub mod OneProgram
 pub mod AssignmentTokens
+mod ProgramSteps

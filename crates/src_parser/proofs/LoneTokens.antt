@@ -15,7 +15,7 @@ use Rattle.gr_word.specs.Prelude.{is_name_byte}
 use Rattle.gr_word.specs.declared.operations.Op.{Op}
 use Rattle.gr_word.specs.declared.operations.Cmp.{Cmp}
 use Rattle.gr_word.specs.declared.variables.Label.{Label}
-use Rattle.src_lexer.specs.declared.tokens.TokenKind.{TokenKind}
+use Rattle.src_lexer.specs.declared.tokens.Kind.{Kind}
 use Rattle.src_lexer.specs.Prelude.{LetterRun, Is, Big, Mixed, letter_run_of, number_run, word_run, sign_of, pair_of}
 use Rattle.src_tree.specs.Prelude.{spaced, line_of_token, op_sign, cmp_sign, label_keyword}
 use Rattle.src_parser.specs.Prelude.{operator_of, comparison_of, keyword_of, IsFree}
@@ -23,14 +23,14 @@ use Rattle.src_parser.proofs.Rendered.{Renders, behind_white, IsAlone, run_alone
 use Rattle.gr_word.specs.declared.operations.Op.TheVariants as op
 use Rattle.gr_word.specs.declared.operations.Cmp.TheVariants as cmp
 use Rattle.gr_word.specs.declared.variables.Label.TheVariants as label
-use Rattle.src_lexer.specs.declared.tokens.TokenKind.TheVariants as kind
+use Rattle.src_lexer.specs.declared.tokens.Kind.TheVariants as kind
 
 -- a token and a space
-pub space : {bytes : List ℕ} {k : TokenKind} → IsAlone bytes k → Renders (spaced bytes) (k ∷ [])
+pub space : {bytes : List ℕ} {k : Kind} → IsAlone bytes k → Renders (spaced bytes) (k ∷ [])
 space a = behind_white 32 (inl refl) a
 
 -- a token and a line feed
-pub line : {bytes : List ℕ} {k : TokenKind} → IsAlone bytes k → Renders (line_of_token bytes) (k ∷ [])
+pub line : {bytes : List ℕ} {k : Kind} → IsAlone bytes k → Renders (line_of_token bytes) (k ∷ [])
 line a = behind_white 10 (inr refl) a
 
 -- the bytes of each sign and keyword, before white space, are its token
@@ -74,7 +74,7 @@ label_alone label.Secret = run_alone (codes "secret") kind.Secret (omega arith) 
 
 -- the sign of an operation
 pub record OpSign (o : Op) : Type 0 where
-  pub k : TokenKind
+  pub k : Kind
   pub alone : IsAlone (op_sign o) k
   pub is : operator_of k ≡ Some o
 
@@ -94,7 +94,7 @@ op_alone op.Shl h = record { k = kind.Shl; alone = double_alone 60 60 kind.Shl r
 op_alone op.Shr h = record { k = kind.Shr; alone = double_alone 62 62 kind.Shr refl refl refl; is = refl }
 
 pub record CmpSign (c : Cmp) : Type 0 where
-  pub k : TokenKind
+  pub k : Kind
   pub alone : IsAlone (cmp_sign c) k
   pub is : comparison_of k ≡ Some c
 

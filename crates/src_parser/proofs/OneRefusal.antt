@@ -1,10 +1,10 @@
 -- At most one error is true of tokens: tokens that begin a sentence also begin one up to each token among them.
 use Rattle.std.proofs.Common.{◌≡◌, ℕ, ◌+◌, ◌-◌, List, [], ◌∷◌, ◌++◌, refl, sym, ap, ◌∙◌, subst, append_assoc}
 use Rattle.std.proofs.lemmas.List.{map-append}
-use Rattle.src_lexer.specs.declared.tokens.TokenKind.{TokenKind}
+use Rattle.src_lexer.specs.declared.tokens.Kind.{Kind}
 use Rattle.src_lexer.specs.declared.tokens.Token.{Token}
 use Rattle.src_parser.specs.Prelude.{Limits, limits, token_kinds, Shallow, Begins, Stray, Deeper, Cut}
-use Rattle.src_lexer.specs.declared.tokens.TokenKind.TheVariants as kind
+use Rattle.src_lexer.specs.declared.tokens.Kind.TheVariants as kind
 
 -- two places of a list: they are the same, or one of them is before the other
 data TwoPlaces {A : Type 0} (a : List A) (x : A) (b : List A) (y : A) : Type 0 where
@@ -25,22 +25,22 @@ places (z ∷ a) [] u v x y e = Later a (let f : z ≡ y = cc in ap (λ t. t ∷
 places (z ∷ a) (w ∷ b) u v x y e =
     let f : z ≡ w = cc in let g : a ++ x ∷ u ≡ b ++ y ∷ v = cc in behind_one z w f (places a b u v x y g)
 
-shallow_front : (most depth : ℕ) (a b : List TokenKind) → Shallow most depth (a ++ b) → Shallow most depth a
+shallow_front : (most depth : ℕ) (a b : List Kind) → Shallow most depth (a ++ b) → Shallow most depth a
 shallow_front most depth [] b s = tt
 shallow_front most depth (kind.LBrace ∷ a) b s = (s.0, shallow_front most (depth + 1) a b s.1)
 shallow_front most depth (kind.RBrace ∷ a) b s = shallow_front most (depth - 1) a b s
 shallow_front most depth (_ ∷ a) b s = shallow_front most depth a b s
 
 -- the first token together with which the tokens before it begin no sentence within the limits
-record Stops {P : Type 0} (Sentence : Limits → List TokenKind → P → Type 0) (tokens before : List Token)
+record Stops {P : Type 0} (Sentence : Limits → List Kind → P → Type 0) (tokens before : List Token)
     (token : Token) : Type 0 where
   after : List Token
   split : tokens ≡ before ++ token ∷ after
   begins : Begins Sentence limits (token_kinds before)
   none : Begins Sentence limits (token_kinds before ++ token.kind ∷ []) → ⊥
 
-module _ {P : Type 0} {Sentence : Limits → List TokenKind → P → Type 0} where
-  front_begins : {most : Limits} (a b : List TokenKind) → Begins Sentence most (a ++ b) → Begins Sentence most a
+module _ {P : Type 0} {Sentence : Limits → List Kind → P → Type 0} where
+  front_begins : {most : Limits} (a b : List Kind) → Begins Sentence most (a ++ b) → Begins Sentence most a
   front_begins {most} a b s = record {
     shallow = shallow_front most.braces 0 a b s.shallow;
     braces = s.braces;

@@ -3,7 +3,7 @@ use Rattle.std.proofs.Common.{◌≡◌, ℕ, List, [], ◌∷◌, ◌++◌, Opt
 use Rattle.std.specs.Prelude.{option_map}
 use Rattle.std.proofs.lemmas.List.{append-nil}
 use Rattle.gr_word.specs.declared.variables.Label.TheVariants.{Public, Secret}
-use Rattle.src_lexer.specs.declared.tokens.TokenKind.{TokenKind}
+use Rattle.src_lexer.specs.declared.tokens.Kind.{Kind}
 use Rattle.src_tree.specs.declared.trees.Decl.{Decl}
 use Rattle.src_tree.specs.Prelude.{Test, Statement, Block, Source}
 use Rattle.src_parser.specs.Prelude.{Limits, Writes, Ends, Declares, NoMore, Scalar, Array, Sentence, Program, declared, in_expression, Outer, MayElse, Ready, Among, chosen, with_part, after_advance, mapped, ParserState, Between, Doing, programs, source_made, program_of, advanced}
@@ -11,11 +11,11 @@ use Rattle.src_parser.proofs.StatementsRead.{NoElse, StatementRuns, settled_kind
 use Rattle.src_parser.proofs.Written.{NoOwn, block_again, written_spelled}
 use Rattle.src_parser.specs.Tokenwise as tokenwise
 
-abbrev pub parsed : Limits → ParserState → List TokenKind → Option Source
+abbrev pub parsed : Limits → ParserState → List Kind → Option Source
 parsed = tokenwise.parsed advanced program_of
 
 settled : (most : Limits) (decls : List Decl) (outer : List (Outer Statement)) (here : List Statement) (test : Test)
-    (first : List Statement) (ks : List TokenKind) → NoElse ks
+    (first : List Statement) (ks : List Kind) → NoElse ks
     → parsed most (Doing decls (Among outer here (MayElse test first))) ks
     ≡ parsed most (Doing decls (Among outer (chosen programs here test first) Ready)) ks
 settled most decls outer here test first [] h =
@@ -38,15 +38,15 @@ statement_runs most decls = record {
 }
 
 -- before the first statement
-starts_kind : (most : Limits) (decls : List Decl) {depth : ℕ} (tokens : List TokenKind) {block : Block}
+starts_kind : (most : Limits) (decls : List Decl) {depth : ℕ} (tokens : List Kind) {block : Block}
     → Writes most depth tokens block
     → parsed most (Between decls) tokens ≡ parsed most (Doing decls (Among [] [] Ready)) tokens
 starts_kind most decls tokens Ends = refl
 starts_kind most decls tokens _ = refl
 
 -- declarations are read as their list
-heads : (most : Limits) {front : List TokenKind} {decls : List Decl}
-    → Declares front decls → (before : List Decl) (back : List TokenKind)
+heads : (most : Limits) {front : List Kind} {decls : List Decl}
+    → Declares front decls → (before : List Decl) (back : List Kind)
     → parsed most (Between before) (front ++ back) ≡ parsed most (Between (before ++ decls)) back
 heads most NoMore before back = ap (λ z. parsed most (Between z) back) (sym (append-nil before))
 heads most (Scalar {decls = decls} Public name rest) before back =
@@ -63,7 +63,7 @@ heads most (Array {decls = decls} Secret name n rest) before back =
     ∙ ap (λ z. parsed most (Between z) back) (append_assoc before (declared Secret name (Some n) ∷ []) decls)
 
 -- a program's tokens are read as the program
-pub sentence_parsed : {most : Limits} {tokens : List TokenKind} {source : Source}
+pub sentence_parsed : {most : Limits} {tokens : List Kind} {source : Source}
     → Sentence most tokens source → parsed most (Between []) tokens ≡ Some source
 sentence_parsed {most} (Program {front = front} {back = back} {decls = decls} {body = body} d w) =
     heads most d [] back ∙ (starts_kind most decls back w ∙

@@ -1,30 +1,30 @@
 -- The tokens of a whole part of a statement are read as that part, for any result.
 use Rattle.std.proofs.Common.{◌≡◌, ◌≢◌, ℕ, ◌+◌, ◌≤◌, List, [], ◌∷◌, ◌++◌, Some, None, refl, ap, ◌∙◌, subst, append_assoc, arith}
 use Rattle.gr_word.specs.declared.operations.Cmp.{Cmp}
-use Rattle.src_lexer.specs.declared.tokens.TokenKind.{TokenKind}
+use Rattle.src_lexer.specs.declared.tokens.Kind.{Kind}
 use Rattle.src_tree.specs.Prelude.{Tree, Test}
 use Rattle.src_parser.specs.Prelude.{Limits, operator_of, comparison_of, operators, SpellsTree, Compares, Compared, Reading, At, Wanted, Given, Stops, Joins, closing, reads, Goes, Form, Asked, Value, Place, Stored, Left, Right, Part, Target, Placed, Guarding, Inside, VariableSet, ElementSet, GuardRead, PartState, Still, Done, in_expression, part_advanced}
 use Rattle.src_parser.proofs.Complete.{Runs, Follows, closer, complete}
-use Rattle.src_lexer.specs.declared.tokens.TokenKind.TheVariants as kind
+use Rattle.src_lexer.specs.declared.tokens.Kind.TheVariants as kind
 
 -- a reading of parts that continues with `part_advanced`, for any result
-pub record PartRuns (most : Limits) {R : Type 0} (go : PartState → List TokenKind → R) : Type 0 where
-  pub goes : (part : Part) (s : PartState) (k : TokenKind) (ks : List TokenKind) → part_advanced most part k ≡ Goes s
+pub record PartRuns (most : Limits) {R : Type 0} (go : PartState → List Kind → R) : Type 0 where
+  pub goes : (part : Part) (s : PartState) (k : Kind) (ks : List Kind) → part_advanced most part k ≡ Goes s
       → go (Still part) (k ∷ ks) ≡ go s ks
-  pub same : (asked : Asked) (x y : Reading) (k : TokenKind) (ks : List TokenKind) → reads most x k ≡ reads most y k
+  pub same : (asked : Asked) (x y : Reading) (k : Kind) (ks : List Kind) → reads most x k ≡ reads most y k
       → go (Still (Inside asked x)) (k ∷ ks) ≡ go (Still (Inside asked y)) (k ∷ ks)
 
 -- with nothing that waits, an expression ends before any token that isn't an operator
-pub stops_whole : (used : ℕ) (tree : Tree) (depth : ℕ) (k : TokenKind)
+pub stops_whole : (used : ℕ) (tree : Tree) (depth : ℕ) (k : Kind)
     → closing used k (Joins [] tree depth) ≡ Stops (At [] depth used (Given tree))
 stops_whole used tree depth kind.RParen = refl
 stops_whole used tree depth _ = refl
 
-no_operator : (k : TokenKind) (cmp : Cmp) → comparison_of k ≡ Some cmp → operator_of k ≡ None
+no_operator : (k : Kind) (cmp : Cmp) → comparison_of k ≡ Some cmp → operator_of k ≡ None
 no_operator kind.Eq cmp e = refl
 no_operator _ cmp e = cc
 
-no_bracket : (k : TokenKind) (cmp : Cmp) → comparison_of k ≡ Some cmp → k ≢ kind.LBracket
+no_bracket : (k : Kind) (cmp : Cmp) → comparison_of k ≡ Some cmp → k ≢ kind.LBracket
 no_bracket k cmp e is =
     let f : comparison_of kind.LBracket ≡ Some cmp = subst (λ z. comparison_of z ≡ Some cmp) is e in absurd (cc)
 
@@ -37,7 +37,7 @@ right_bracket = closer 0 kind.RBracket (λ e. absurd (cc)) refl
 pub semicolon : Follows 0 kind.Semi
 semicolon = closer 0 kind.Semi (λ e. absurd (cc)) refl
 
-module _ {R : Type 0} (most : Limits) (go : PartState → List TokenKind → R) (runs : PartRuns most go) where
+module _ {R : Type 0} (most : Limits) (go : PartState → List Kind → R) (runs : PartRuns most go) where
   -- an expression in a part is read as its tokens are read
   expression_runs : (asked : Asked) → Runs most (λ x ks. go (Still (Inside asked x)) ks)
   expression_runs asked = record {
@@ -46,8 +46,8 @@ module _ {R : Type 0} (most : Limits) (go : PartState → List TokenKind → R) 
   }
 
   -- the value of a variable
-  pub variable_read : {tokens : List TokenKind} {value : Tree} (name : List ℕ)
-      → SpellsTree most.brackets 0 0 tokens value → operators value ≤ most.operators → (ks : List TokenKind)
+  pub variable_read : {tokens : List Kind} {value : Tree} (name : List ℕ)
+      → SpellsTree most.brackets 0 0 tokens value → operators value ≤ most.operators → (ks : List Kind)
       → go (Still (Target name)) (kind.Assign ∷ (tokens ++ kind.Semi ∷ ks)) ≡ go (Done (VariableSet name value)) ks
   variable_read {value = value} name s fits ks =
       runs.goes (Target name) _ _ _ refl ∙
@@ -55,9 +55,9 @@ module _ {R : Type 0} (most : Limits) (go : PartState → List TokenKind → R) 
       (omega arith) fits ∙ runs.goes (Inside (Value name) (At [] 0 (operators value) (Given value))) _ _ _ refl)
 
   -- the index and the value of an element
-  pub element_read : {at tokens : List TokenKind} {index value : Tree} (name : List ℕ)
+  pub element_read : {at tokens : List Kind} {index value : Tree} (name : List ℕ)
       → SpellsTree most.brackets 1 0 at index → SpellsTree most.brackets 0 0 tokens value
-      → operators index + operators value ≤ most.operators → (ks : List TokenKind)
+      → operators index + operators value ≤ most.operators → (ks : List Kind)
       → go (Still (Target name)) (kind.LBracket ∷ (at ++ kind.RBracket ∷ kind.Assign ∷ (tokens ++ kind.Semi ∷ ks)))
       ≡ go (Done (ElementSet name index value)) ks
   element_read {tokens = tokens} {index = index} {value = value} name i s fits ks =
@@ -71,14 +71,14 @@ module _ {R : Type 0} (most : Limits) (go : PartState → List TokenKind → R) 
       runs.goes (Inside (Stored name index) (At [] 0 (operators index + operators value) (Given value))) _ _ _
       refl))))
 
-  left_ends : (form : Form) (a : Tree) (used : ℕ) (sign : TokenKind) (cmp : Cmp) → comparison_of sign ≡ Some cmp
+  left_ends : (form : Form) (a : Tree) (used : ℕ) (sign : Kind) (cmp : Cmp) → comparison_of sign ≡ Some cmp
       → part_advanced most (Inside (Left form) (At [] 0 used (Given a))) sign
       ≡ Goes (Still (Inside (Right form cmp a) (At [] 0 used Wanted)))
   left_ends form a used sign cmp is = rw (no_operator sign cmp is, stops_whole used a 0 sign, is) refl
 
   -- a guard
-  pub guard_read : {tokens : List TokenKind} {test : Test} → Compares most tokens test → (form : Form)
-      (ks : List TokenKind) → go (Still (Guarding form)) (kind.LParen ∷ (tokens ++ kind.RParen ∷ ks))
+  pub guard_read : {tokens : List Kind} {test : Test} → Compares most tokens test → (form : Form)
+      (ks : List Kind) → go (Still (Guarding form)) (kind.LParen ∷ (tokens ++ kind.RParen ∷ ks))
       ≡ go (Done (GuardRead form test)) ks
   guard_read (Compared {left = left} {right = right} {a = a} {b = b} cmp sign is first second fits) form ks =
       rw (append_assoc left (sign ∷ right) (kind.RParen ∷ ks))

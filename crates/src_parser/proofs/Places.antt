@@ -1,6 +1,6 @@
 -- What the errors of any parser that reads token by token (`specs/Tokenwise`) mean for programs.
 use Rattle.std.proofs.Common.{◌≡◌, ℕ, List, [], ◌∷◌, ◌++◌}
-use Rattle.src_lexer.specs.declared.tokens.TokenKind.{TokenKind}
+use Rattle.src_lexer.specs.declared.tokens.Kind.{Kind}
 use Rattle.src_lexer.specs.declared.tokens.Token.{Token}
 use Rattle.src_tree.specs.Prelude.{Source}
 use Rattle.src_parser.specs.Prelude.{Limits, limits, Sentence, token_kinds, ProgramBegins, Unexpected, TooDeep, CutShort, Begins, Stray, Deeper, Cut, ParserState, advanced, ExplainsTokens, ReadsTo}
@@ -11,10 +11,10 @@ use Rattle.src_parser.proofs.SeveralTokens.{stray_after, deeper_after}
 use Rattle.src_parser.specs.declared.errors.ParseError.TheVariants as error
 use Rattle.src_parser.proofs.Tokenwise as tokenwise
 
-begun : {most : Limits} {tokens : List TokenKind} → Begins Sentence most tokens → ProgramBegins most tokens
+begun : {most : Limits} {tokens : List Kind} → Begins Sentence most tokens → ProgramBegins most tokens
 begun b = record { shallow = b.shallow; braces = b.braces; more = b.more; program = b.tree; sentence = b.sentence }
 
-begins : {most : Limits} {tokens : List TokenKind} → ProgramBegins most tokens → Begins Sentence most tokens
+begins : {most : Limits} {tokens : List Kind} → ProgramBegins most tokens → Begins Sentence most tokens
 begins b = record { shallow = b.shallow; braces = b.braces; more = b.more; tree = b.program; sentence = b.sentence }
 
 pub unexpected : (tokens : List Token) (at : ℕ) → Stray Sentence tokens at → Unexpected tokens at

@@ -1,17 +1,17 @@
 -- The open blocks of a state are the open braces of its tokens.
 use Rattle.std.proofs.Common.{◌≡◌, ℕ, List, [], refl, sym, ap, ◌∙◌, subst}
-use Rattle.src_lexer.specs.declared.tokens.TokenKind.{TokenKind}
+use Rattle.src_lexer.specs.declared.tokens.Kind.{Kind}
 use Rattle.src_tree.specs.declared.trees.Decl.{Decl}
 use Rattle.src_parser.specs.Prelude.{Limits, HeadingState, Begun, Declared, heading_advanced, between_statements, performed, depth_of, Goes, ParserState, Between, Declaring, Doing, programs, between, with_heading, advanced, open_braces}
 use Rattle.src_parser.proofs.Tokenwise.{Counted}
 use Rattle.src_parser.proofs.Braces.{same_state, mapped_goes, heading_counted}
 use Rattle.src_parser.proofs.StatementBraces.{beginning_counted, statements_counted}
-use Rattle.src_lexer.specs.declared.tokens.TokenKind.TheVariants as kind
+use Rattle.src_lexer.specs.declared.tokens.Kind.TheVariants as kind
 
 same_count : (x y : ParserState) → Goes x ≡ Goes y → open_braces y ≡ open_braces x
 same_count x y e = ap open_braces (sym (same_state x y e))
 
-between_counted : (most : ℕ) (decls : List Decl) (k : TokenKind) (next : ParserState)
+between_counted : (most : ℕ) (decls : List Decl) (k : Kind) (next : ParserState)
     → between decls k ≡ Goes next → Counted k most 0 (open_braces next)
 between_counted most decls kind.Public next e = same_count _ next e
 between_counted most decls kind.Secret next e = same_count _ next e
@@ -23,7 +23,7 @@ heading_count : (decls : List Decl) (s : HeadingState) → open_braces (with_hea
 heading_count decls (Begun heading) = refl
 heading_count decls (Declared decl) = refl
 
-pub counted : (most : Limits) (state : ParserState) (k : TokenKind) (next : ParserState)
+pub counted : (most : Limits) (state : ParserState) (k : Kind) (next : ParserState)
     → advanced most state k ≡ Goes next → Counted k most.braces (open_braces state) (open_braces next)
 counted most (Between decls) k next e = between_counted most.braces decls k next e
 counted most (Declaring decls heading) k next e =

@@ -1,7 +1,7 @@
 -- The laws of single tokens and of states when a program is read token by token, from which the meaning of each error
 -- follows.
 use Rattle.std.proofs.Common.{◌≡◌, List, [], refl}
-use Rattle.src_lexer.specs.declared.tokens.TokenKind.{TokenKind}
+use Rattle.src_lexer.specs.declared.tokens.Kind.{Kind}
 use Rattle.src_tree.specs.Prelude.{Source}
 use Rattle.src_parser.specs.Prelude.{Limits, Sentence, ParserState, Between, advanced, program_of, open_braces}
 use Rattle.src_parser.proofs.Tokenwise.{Laws}
@@ -28,6 +28,6 @@ program_laws = record {
 }
 
 -- tokens have at most one tree
-pub one_tree : (most : Limits) (tokens : List TokenKind) (p q : Source)
+pub one_tree : (most : Limits) (tokens : List Kind) (p q : Source)
     → Sentence most tokens p → Sentence most tokens q → p ≡ q
 one_tree most tokens p q s t = let f = sentence_parsed s in let g = sentence_parsed t in cc

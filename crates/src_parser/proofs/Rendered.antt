@@ -3,20 +3,20 @@ use Rattle.std.proofs.Common.{◌≡◌, ◌⊎◌, inl, inr, ℕ, ◌+◌, ◌<
 use Rattle.std.specs.List.{list_all}
 use Rattle.std.proofs.lemmas.Bool.Decides.{nat_tests}
 use Rattle.gr_word.specs.Prelude.{is_name_byte}
-use Rattle.src_lexer.specs.declared.tokens.TokenKind.{TokenKind}
+use Rattle.src_lexer.specs.declared.tokens.Kind.{Kind}
 use Rattle.src_lexer.specs.declared.tokens.Token.{Token}
 use Rattle.src_lexer.specs.Prelude.{is_white, Is, letter_run_of, sign_of, Two, Apart, pair_of, Lexed, with_token, token_at, Splits, Blank, Word, Double, Single}
 use Rattle.src_lexer.proofs.FirstPieces.{place_at}
 use Rattle.src_parser.specs.Prelude.{token_kinds}
 
 -- a text that splits into tokens of these kinds, before a given rest
-pub record Rendering (at : ℕ) (text rest : List ℕ) (ks : List TokenKind) (more : List Token) : Type 0 where
+pub record Rendering (at : ℕ) (text rest : List ℕ) (ks : List Kind) (more : List Token) : Type 0 where
   pub tokens : List Token
   pub split : Splits at (text ++ rest) (Ok tokens)
   pub same : token_kinds tokens ≡ ks ++ token_kinds more
 
 -- a text splits into tokens of these kinds, before any rest
-pub record Renders (text : List ℕ) (ks : List TokenKind) : Type 0 where
+pub record Renders (text : List ℕ) (ks : List Kind) : Type 0 where
   pub render : (at : ℕ) (rest : List ℕ) (more : List Token)
       → Splits (at + length text) rest (Ok more) → Rendering at text rest ks more
 
@@ -30,7 +30,7 @@ nothing = record {
 }
 
 -- two texts in sequence
-pub both : {a b : List ℕ} {ks ls : List TokenKind} → Renders a ks → Renders b ls → Renders (a ++ b) (ks ++ ls)
+pub both : {a b : List ℕ} {ks ls : List Kind} → Renders a ks → Renders b ls → Renders (a ++ b) (ks ++ ls)
 both {a} {b} {ks} {ls} r q = record {
   render = λ at rest more s.
       let size = length-append a b in
@@ -46,7 +46,7 @@ both {a} {b} {ks} {ls} r q = record {
 }
 
 -- bytes that are this token if white space follows
-pub record IsAlone (bytes : List ℕ) (k : TokenKind) : Type 0 where
+pub record IsAlone (bytes : List ℕ) (k : Kind) : Type 0 where
   pub alone : (at b : ℕ) (rest : List ℕ) (r : Lexed) → (b ≡ 32) ⊎ (b ≡ 10) → Splits (at + length bytes) (b ∷ rest) r
       → Splits at (bytes ++ b ∷ rest) (with_token (token_at k at (length bytes)) r)
 
@@ -59,7 +59,7 @@ ends_name b (inl e) = subst (λ z. is_name_byte z ≡ false) (sym e) refl
 ends_name b (inr e) = subst (λ z. is_name_byte z ≡ false) (sym e) refl
 
 -- a token and white space
-pub behind_white : {bytes : List ℕ} {k : TokenKind} (b : ℕ)
+pub behind_white : {bytes : List ℕ} {k : Kind} (b : ℕ)
     → (b ≡ 32) ⊎ (b ≡ 10) → IsAlone bytes k → Renders (bytes ++ b ∷ []) (k ∷ [])
 behind_white {bytes} {k} b w a = record {
   render = λ at rest more s.
@@ -75,7 +75,7 @@ behind_white {bytes} {k} b w a = record {
 }
 
 -- a run of letters, digits and `_`
-pub run_alone : (bytes : List ℕ) (k : TokenKind)
+pub run_alone : (bytes : List ℕ) (k : Kind)
     → 0 < length bytes → list_all is_name_byte bytes ≡ true → letter_run_of bytes ≡ Is k → IsAlone bytes k
 run_alone bytes k some each is =
     record { alone = λ at b rest r w s. Word k bytes some (record { each = each; ends = inr (ends_name b w) }) is s }
@@ -86,14 +86,14 @@ behind_sign a b (inl e) = subst (λ z. pair_of a z ≡ Apart) (sym e) (grind (ar
 behind_sign a b (inr e) = subst (λ z. pair_of a z ≡ Apart) (sym e) (grind (arith, nat_tests))
 
 -- a sign of one byte
-pub single_alone : (a : ℕ) (k : TokenKind)
+pub single_alone : (a : ℕ) (k : Kind)
     → is_white a ≡ false → is_name_byte a ≡ false → sign_of a ≡ Some k → IsAlone (a ∷ []) k
 single_alone a k no_white no_word is = record {
   alone = λ at b rest r w s. Single k a (record { no_white = no_white; no_word = no_word }) is (behind_sign a b w) s;
 }
 
 -- a sign of two bytes
-pub double_alone : (a c : ℕ) (k : TokenKind)
+pub double_alone : (a c : ℕ) (k : Kind)
     → is_white a ≡ false → is_name_byte a ≡ false → pair_of a c ≡ Two k → IsAlone (a ∷ c ∷ []) k
 double_alone a c k no_white no_word is =
     record { alone = λ at b rest r w s. Double k a c (record { no_white = no_white; no_word = no_word }) is s }

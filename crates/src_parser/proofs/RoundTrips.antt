@@ -1,7 +1,7 @@
 -- The canonical text of a printable program is read as that program again.
 use Rattle.std.proofs.Common.{◌≡◌, ℕ, ◌+◌, ◌<◌, ◌≤◌, pos, negsuc, List, [], ◌∷◌, ◌++◌, refl, sym, ◌∙◌, subst, append_assoc, arith, Option, Some, None, Ok}
 use Rattle.std.proofs.lemmas.List.{append-nil}
-use Rattle.src_lexer.specs.declared.tokens.TokenKind.{TokenKind}
+use Rattle.src_lexer.specs.declared.tokens.Kind.{Kind}
 use Rattle.src_tree.specs.declared.trees.Decl.{Decl}
 use Rattle.src_tree.specs.Prelude.{Tree, Number, Variable, Element, Operation, Test, Statement, SetVariable, SetElement, Choice, Loop, Block, Nothing, Then, Source, height_of, in_braces, tree_text, test_text, statement_text, block_text, decls_text, source_text}
 use Rattle.src_tree.proofs.TreeHeights.{height-some}
@@ -9,12 +9,12 @@ use Rattle.src_parser.specs.Prelude.{limits, level_of, keyword_of, operators, Sp
 use Rattle.src_lexer.specs.Prelude.{Splits, Ends}
 use Rattle.src_parser.proofs.Rendered.{Renders, nothing, both}
 use Rattle.src_parser.proofs.LoneTokens.{space, line, lone, label_alone, op_alone, cmp_alone, name_alone, number_alone}
-use Rattle.src_lexer.specs.declared.tokens.TokenKind.TheVariants as kind
+use Rattle.src_lexer.specs.declared.tokens.Kind.TheVariants as kind
 use Rattle.src_parser.specs.Grammar as grammar
 
 -- an expression's text and its tokens
 pub record TreeText (depth : ℕ) (tree : Tree) : Type 0 where
-  pub ks : List TokenKind
+  pub ks : List Kind
   pub renders : Renders (tree_text tree) ks
   pub spells : (level : ℕ) → SpellsTree 32 depth level ks tree
 
@@ -48,7 +48,7 @@ tree_rendered (Operation o a b) depth p h =
 
 -- a guard's text and its tokens
 pub record TestText (test : Test) : Type 0 where
-  pub ks : List TokenKind
+  pub ks : List Kind
   pub renders : Renders (test_text test) (kind.LParen ∷ (ks ++ kind.RParen ∷ []))
   pub compares : Compares limits ks test
 
@@ -69,21 +69,21 @@ test_rendered test f =
 
 -- a statement's text and its tokens, before others
 pub record StatementText (depth : ℕ) (s : Statement) : Type 0 where
-  pub ks : List TokenKind
+  pub ks : List Kind
   pub renders : Renders (statement_text s) ks
-  pub writes : (rest : List TokenKind) (block : Block)
+  pub writes : (rest : List Kind) (block : Block)
       → Writes limits depth rest block → Writes limits depth (ks ++ rest) (Then s block)
 
 pub record BlockText (depth : ℕ) (block : Block) : Type 0 where
-  pub ks : List TokenKind
+  pub ks : List Kind
   pub renders : Renders (block_text block) ks
   pub writes : Writes limits depth ks block
 
-writes_at : {depth : ℕ} {block : Block} (xs ys : List TokenKind)
+writes_at : {depth : ℕ} {block : Block} (xs ys : List Kind)
     → xs ≡ ys → Writes limits depth xs block → Writes limits depth ys block
 writes_at {depth} {block} xs ys e w = subst (λ z. Writes limits depth z block) e w
 
-braces_rendered : {text : List ℕ} {ks : List TokenKind}
+braces_rendered : {text : List ℕ} {ks : List Kind}
     → Renders text ks → Renders (in_braces text) (kind.LBrace ∷ (ks ++ kind.RBrace ∷ []))
 braces_rendered r = both (line lone.lbrace) (both r (line lone.rbrace))
 
@@ -155,7 +155,7 @@ mutual
       then_rendered depth s rest (statement_rendered s depth f.0) (block_rendered rest depth f.1)
 
 pub record DeclsText (decls : List Decl) : Type 0 where
-  pub ks : List TokenKind
+  pub ks : List Kind
   pub renders : Renders (decls_text decls) ks
   pub declares : Declares ks decls
 

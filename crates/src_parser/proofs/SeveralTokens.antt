@@ -1,24 +1,24 @@
 -- Tokens that are read in several lists: from any state, and from the first one.
 use Rattle.std.proofs.Common.{◌≡◌, ℕ, ◌+◌, ◌<◌, ◌≤◌, List, [], ◌∷◌, ◌++◌, length, take, drop, get_or, take-add, Option, Some, None, refl, sym, ap, ◌∙◌, subst, append_assoc, arith}
 use Rattle.std.proofs.lemmas.List.{map-append, take_all}
-use Rattle.src_lexer.specs.declared.tokens.TokenKind.{TokenKind}
+use Rattle.src_lexer.specs.declared.tokens.Kind.{Kind}
 use Rattle.src_lexer.specs.declared.tokens.Token.{Token}
 use Rattle.src_parser.specs.Prelude.{Limits, limits, ReadsTo, StopsAt, token_kinds, Advance, Goes, Wrong, TooMuch, then_advance, advances, Stray, Deeper, Cut}
 use Rattle.src_parser.proofs.TokenPlaces.{split_at, kinds_more}
 use Rattle.src_parser.proofs.Tokenwise.{Laws, begins, wrong_begins, much_begins, wider_begins, whole_sentence, no_sentence}
 
-module _ {S : Type 0} (advanced : Limits → S → TokenKind → Advance S) where
-  abbrev goes_over : S → List TokenKind → Advance S
+module _ {S : Type 0} (advanced : Limits → S → Kind → Advance S) where
+  abbrev goes_over : S → List Kind → Advance S
   goes_over state ks = advances advanced limits state ks
 
-  then_both : (ks more : List TokenKind) (t : Advance S) (middle last : S)
+  then_both : (ks more : List Kind) (t : Advance S) (middle last : S)
       → ((s : S) → goes_over s ks ≡ Goes middle → goes_over s (ks ++ more) ≡ Goes last)
       → then_advance t (λ s. goes_over s ks) ≡ Goes middle → then_advance t (λ s. goes_over s (ks ++ more)) ≡ Goes last
   then_both ks more (Goes s) middle last rest e = rest s e
   then_both ks more Wrong middle last rest e = absurd (cc)
   then_both ks more TooMuch middle last rest e = absurd (cc)
 
-  goes_both : (ks more : List TokenKind) (state middle last : S) → goes_over state ks ≡ Goes middle
+  goes_both : (ks more : List Kind) (state middle last : S) → goes_over state ks ≡ Goes middle
       → goes_over middle more ≡ Goes last → goes_over state (ks ++ more) ≡ Goes last
   goes_both [] more state middle last e f =
       let g : state ≡ middle = cc in subst (λ z. goes_over z more ≡ Goes last) (sym g) f
@@ -87,8 +87,8 @@ module _ {S : Type 0} (advanced : Limits → S → TokenKind → Advance S) wher
 around : (a b c d : List Token) (t : Token) → (a ++ (b ++ t ∷ c)) ++ d ≡ (a ++ b) ++ t ∷ (c ++ d)
 around a b c d t = simp append_assoc refl
 
-module _ {S P : Type 0} {advanced : Limits → S → TokenKind → Advance S} {gives : S → Option P} {open_braces : S → ℕ}
-    {start : S} {Sentence : Limits → List TokenKind → P → Type 0} {Standing : Limits → S → List TokenKind → Type 0}
+module _ {S P : Type 0} {advanced : Limits → S → Kind → Advance S} {gives : S → Option P} {open_braces : S → ℕ}
+    {start : S} {Sentence : Limits → List Kind → P → Type 0} {Standing : Limits → S → List Kind → Type 0}
     (laws : Laws advanced gives open_braces start Sentence Standing) where
   -- a token with which no sentence can continue, for any tokens after it
   pub stray_after : (before tokens after : List Token) (state : S) (at : ℕ) → ReadsTo advanced start before state

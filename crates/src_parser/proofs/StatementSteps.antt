@@ -2,23 +2,23 @@
 use Rattle.std.proofs.Common.{◌≡◌, ℕ, ◌+◌, ◌<◌, Bool, true, false, List, [], ◌∷◌, ◌++◌, refl, sym, subst, append_assoc, arith}
 use Rattle.std.proofs.lemmas.List.{append-nil}
 use Rattle.std.proofs.lemmas.Bool.{ltb-true}
-use Rattle.src_lexer.specs.declared.tokens.TokenKind.{TokenKind}
+use Rattle.src_lexer.specs.declared.tokens.Kind.{Kind}
 use Rattle.src_tree.specs.Prelude.{Test}
 use Rattle.src_parser.specs.Prelude.{Limits, Compares, Form, ForChoice, ForLoop, PartState, Still, Done, part_advanced, Makers, Outer, Otherwise, Blocks, Among, depth_in, leaving, between_statements, chosen, elsing, with_part, entering, otherwise, performed, Goes, with_braces}
 use Rattle.src_parser.proofs.Braces.{mapped_goes}
 use Rattle.src_parser.proofs.PartTokens.{word_of, IsTarget, IsGuarding, MakesVariable, MakesElement, MakesGuard, StateStands, part_steps}
 use Rattle.src_parser.proofs.Spelled.{Spelled, NoneLeft, Assigns, Stores, Decides, DecidesElse, Loops}
 use Rattle.src_parser.proofs.StatementsStanding.{Enclosed, Top, First, Second, Looped, IsReady, IsMayElse, IsPart, IsGuarded, IsOtherwise, StatementsStand, InBlock, enclosed_depth, one_statement}
-use Rattle.src_lexer.specs.declared.tokens.TokenKind.TheVariants as kind
+use Rattle.src_lexer.specs.declared.tokens.Kind.TheVariants as kind
 
-module _ {S : Type 0} {make : Makers S} {Own : List TokenKind → S → Type 0} {most : Limits} {outside : ℕ} where
-  went : {tokens : List TokenKind} (x y : Blocks S) → Goes x ≡ Goes y → StatementsStand make Own most outside x tokens → StatementsStand make Own most outside y tokens
+module _ {S : Type 0} {make : Makers S} {Own : List Kind → S → Type 0} {most : Limits} {outside : ℕ} where
+  went : {tokens : List Kind} (x y : Blocks S) → Goes x ≡ Goes y → StatementsStand make Own most outside x tokens → StatementsStand make Own most outside y tokens
   went {tokens} x y e s = subst (λ z. StatementsStand make Own most outside z tokens) (let f : x ≡ y = cc in f) s
 
-  leads_at : {x : Blocks S} (ts us : List TokenKind) → ts ≡ us → StatementsStand make Own most outside x ts → StatementsStand make Own most outside x us
+  leads_at : {x : Blocks S} (ts us : List Kind) → ts ≡ us → StatementsStand make Own most outside x ts → StatementsStand make Own most outside x us
   leads_at {x} ts us e s = subst (λ z. StatementsStand make Own most outside x z) e s
 
-  leaving_stands : {outer : List (Outer S)} {depth : ℕ} {here : List S} {ts : List TokenKind}
+  leaving_stands : {outer : List (Outer S)} {depth : ℕ} {here : List S} {ts : List Kind}
       → Enclosed make Own most outside outer depth here ts → (next : Blocks S) → leaving make outer here ≡ Goes next
       → StatementsStand make Own most outside next (ts ++ kind.RBrace ∷ [])
   leaving_stands (Top w) next e = absurd (cc)
@@ -32,8 +32,8 @@ module _ {S : Type 0} {make : Makers S} {Own : List TokenKind → S → Type 0} 
       (InBlock (one_statement o (Loops g room w NoneLeft)) IsReady))
 
   -- a token between statements
-  pub beginning_stands : {outer : List (Outer S)} {depth : ℕ} {here : List S} {ts : List TokenKind}
-      → Enclosed make Own most outside outer depth here ts → (k : TokenKind) (next : Blocks S)
+  pub beginning_stands : {outer : List (Outer S)} {depth : ℕ} {here : List S} {ts : List Kind}
+      → Enclosed make Own most outside outer depth here ts → (k : Kind) (next : Blocks S)
       → between_statements make outer here k ≡ Goes next
       → StatementsStand make Own most outside next (ts ++ k ∷ [])
   beginning_stands o (kind.Word name) next e = went _ next e (InBlock o (IsPart (IsTarget name)))
@@ -43,31 +43,31 @@ module _ {S : Type 0} {make : Makers S} {Own : List TokenKind → S → Type 0} 
   beginning_stands o _ next e = absurd (cc)
 
   -- a token after the first block of a choice, which was added as a statement
-  elsing_begins : {outer : List (Outer S)} {depth : ℕ} {here : List S} {ts : List TokenKind} {test : Test}
+  elsing_begins : {outer : List (Outer S)} {depth : ℕ} {here : List S} {ts : List Kind} {test : Test}
       (first : List S) → Enclosed make Own most outside outer depth (chosen make here test first) ts
       → StatementsStand make Own most outside (Among outer here (Otherwise test first)) (ts ++ kind.Else ∷ [])
-      → (k : TokenKind) (next : Blocks S) → elsing make outer here test first k ≡ Goes next
+      → (k : Kind) (next : Blocks S) → elsing make outer here test first k ≡ Goes next
       → StatementsStand make Own most outside next (ts ++ k ∷ [])
   elsing_begins first o s kind.Else next e = went _ next e s
   elsing_begins first o s k next e = beginning_stands o k next e
 
-  elsing_stands : {outer : List (Outer S)} {depth : ℕ} {here : List S} {ts guard inner : List TokenKind} {test : Test}
+  elsing_stands : {outer : List (Outer S)} {depth : ℕ} {here : List S} {ts guard inner : List Kind} {test : Test}
       (first : List S) → Enclosed make Own most outside outer depth here ts → Compares most guard test
       → depth < most.braces → Spelled make Own most (depth + 1) inner first
-      → (k : TokenKind) (next : Blocks S) → elsing make outer here test first k ≡ Goes next → StatementsStand make Own most outside next
+      → (k : Kind) (next : Blocks S) → elsing make outer here test first k ≡ Goes next → StatementsStand make Own most outside next
       ((ts ++ (kind.If ∷ kind.LParen ∷ (guard ++ kind.RParen ∷ kind.LBrace ∷ (inner ++ kind.RBrace ∷ [])))) ++ k ∷ [])
   elsing_stands {ts = ts} {guard = guard} {inner = inner} first o g room w k next e =
       elsing_begins first (one_statement o (Decides g room w NoneLeft))
       (leads_at _ _ (simp append_assoc refl) (InBlock o (IsOtherwise g room w))) k next e
 
-  with_room : {ts : List TokenKind} (b : Bool) (x y : Blocks S)
+  with_room : {ts : List Kind} (b : Bool) (x y : Blocks S)
       → with_braces b x ≡ Goes y → (b ≡ true → StatementsStand make Own most outside x ts) → StatementsStand make Own most outside y ts
   with_room true x y e s = went x y e (s refl)
   with_room false x y e s = absurd (cc)
 
-  entering_stands : {outer : List (Outer S)} {depth : ℕ} {here : List S} {ts guard : List TokenKind} {test : Test}
+  entering_stands : {outer : List (Outer S)} {depth : ℕ} {here : List S} {ts guard : List Kind} {test : Test}
       (form : Form) → Enclosed make Own most outside outer depth here ts → Compares most guard test
-      → (k : TokenKind) (next : Blocks S) → entering most outside outer here form test k ≡ Goes next
+      → (k : Kind) (next : Blocks S) → entering most outside outer here form test k ≡ Goes next
       → StatementsStand make Own most outside next ((ts ++ (word_of form ∷ kind.LParen ∷ (guard ++ kind.RParen ∷ []))) ++ k ∷ [])
   entering_stands {outer = outer} {ts = ts} {guard = guard} ForChoice o g kind.LBrace next e =
       with_room _ _ next e (λ t. let deep = enclosed_depth o in
@@ -79,10 +79,10 @@ module _ {S : Type 0} {make : Makers S} {Own : List TokenKind → S → Type 0} 
       leads_at _ _ (simp (append_assoc, append-nil) refl) (InBlock (Looped o g (omega arith) NoneLeft) IsReady))
   entering_stands form o g _ next e = absurd (cc)
 
-  otherwise_stands : {outer : List (Outer S)} {depth : ℕ} {here : List S} {ts guard inner : List TokenKind}
+  otherwise_stands : {outer : List (Outer S)} {depth : ℕ} {here : List S} {ts guard inner : List Kind}
       {test : Test} (first : List S) → Enclosed make Own most outside outer depth here ts → Compares most guard test
       → depth < most.braces → Spelled make Own most (depth + 1) inner first
-      → (k : TokenKind) (next : Blocks S) → otherwise most outside outer here test first k ≡ Goes next → StatementsStand make Own most outside next
+      → (k : Kind) (next : Blocks S) → otherwise most outside outer here test first k ≡ Goes next → StatementsStand make Own most outside next
       ((ts ++ (kind.If ∷ kind.LParen ∷ (guard ++ kind.RParen ∷ kind.LBrace ∷ (inner ++ kind.RBrace ∷ kind.Else ∷ []))))
       ++ k ∷ [])
   otherwise_stands {ts = ts} {guard = guard} {inner = inner} first o g room w kind.LBrace next e =
@@ -91,7 +91,7 @@ module _ {S : Type 0} {make : Makers S} {Own : List TokenKind → S → Type 0} 
   otherwise_stands first o g room w _ next e = absurd (cc)
 
   -- a part, or the statement or the guard that it is when it is complete
-  state_stands : {outer : List (Outer S)} {depth : ℕ} {here : List S} {ts : List TokenKind} (us : List TokenKind)
+  state_stands : {outer : List (Outer S)} {depth : ℕ} {here : List S} {ts : List Kind} (us : List Kind)
       → Enclosed make Own most outside outer depth here ts → (s : PartState) → StateStands most s us
       → StatementsStand make Own most outside (with_part make outer here s) (ts ++ us)
   state_stands us o (Still part) p = InBlock o (IsPart p)
@@ -101,8 +101,8 @@ module _ {S : Type 0} {make : Makers S} {Own : List TokenKind → S → Type 0} 
       leads_at _ _ (append-nil _) (InBlock (one_statement o (Stores name i s fits NoneLeft)) IsReady)
   state_stands _ o (Done _) (MakesGuard form g) = InBlock o (IsGuarded form g)
 
-  part_stands : {outer : List (Outer S)} {depth : ℕ} {here : List S} {ts : List TokenKind} (us : List TokenKind)
-      → Enclosed make Own most outside outer depth here ts → (k : TokenKind) (s : PartState)
+  part_stands : {outer : List (Outer S)} {depth : ℕ} {here : List S} {ts : List Kind} (us : List Kind)
+      → Enclosed make Own most outside outer depth here ts → (k : Kind) (s : PartState)
       → StateStands most s (us ++ k ∷ []) → (next : Blocks S) → with_part make outer here s ≡ next
       → StatementsStand make Own most outside next ((ts ++ us) ++ k ∷ [])
   part_stands {ts = ts} us o k s p next e =
@@ -110,8 +110,8 @@ module _ {S : Type 0} {make : Makers S} {Own : List TokenKind → S → Type 0} 
       (leads_at _ _ (sym (append_assoc ts us (k ∷ []))) (state_stands (us ++ k ∷ []) o s p))
 
   -- a token of statements
-  pub statements_step : {blocks : Blocks S} {tokens : List TokenKind}
-      → StatementsStand make Own most outside blocks tokens → (k : TokenKind) (next : Blocks S)
+  pub statements_step : {blocks : Blocks S} {tokens : List Kind}
+      → StatementsStand make Own most outside blocks tokens → (k : Kind) (next : Blocks S)
       → performed make most outside blocks k ≡ Goes next
       → StatementsStand make Own most outside next (tokens ++ k ∷ [])
   statements_step (InBlock {ts = ts} o IsReady) k next e =

@@ -3,36 +3,36 @@ use Rattle.std.proofs.Common.{◌≡◌, ℕ, ◌<◌, List, [], ◌∷◌, ◌+
 use Rattle.std.specs.Prelude.{nat_lt}
 use Rattle.std.proofs.lemmas.List.{append-nil}
 use Rattle.std.proofs.lemmas.Bool.{lt-ltb}
-use Rattle.src_lexer.specs.declared.tokens.TokenKind.{TokenKind}
+use Rattle.src_lexer.specs.declared.tokens.Kind.{Kind}
 use Rattle.src_tree.specs.Prelude.{Test}
 use Rattle.src_parser.specs.Prelude.{Limits, Reading, reads, ForChoice, ForLoop, Asked, Target, Guarding, Inside, Makers, Outer, InFirst, InSecond, InLoop, Ready, MayElse, InPart, Guarded, Otherwise, Blocks, Among, depth_in, between_statements, chosen, elsing, with_part, complete_of, performed, Goes, mapped, with_braces}
 use Rattle.src_parser.proofs.PartRead.{PartRuns, variable_read, element_read, guard_read}
 use Rattle.src_parser.proofs.Spelled.{Spelled, NoneLeft, Assigns, Stores, Decides, DecidesElse, Loops, Adds}
-use Rattle.src_lexer.specs.declared.tokens.TokenKind.TheVariants as kind
+use Rattle.src_lexer.specs.declared.tokens.Kind.TheVariants as kind
 
 -- tokens that don't begin with `else`
-abbrev pub NoElse : List TokenKind → Type 0
+abbrev pub NoElse : List Kind → Type 0
 NoElse [] = Unit {0}
 NoElse (kind.Else ∷ ks) = ⊥
 NoElse (k ∷ ks) = Unit {0}
 
 -- a reading of statements that continues with `performed`, and reads the language's own statements
-pub record StatementRuns {S : Type 0} (make : Makers S) (Own : List TokenKind → S → Type 0) (most : Limits)
-    (outside : ℕ) {R : Type 0} (go : Blocks S → List TokenKind → R) : Type 0 where
-  pub goes : (x y : Blocks S) (k : TokenKind) (ks : List TokenKind) → performed make most outside x k ≡ Goes y
+pub record StatementRuns {S : Type 0} (make : Makers S) (Own : List Kind → S → Type 0) (most : Limits)
+    (outside : ℕ) {R : Type 0} (go : Blocks S → List Kind → R) : Type 0 where
+  pub goes : (x y : Blocks S) (k : Kind) (ks : List Kind) → performed make most outside x k ≡ Goes y
       → go x (k ∷ ks) ≡ go y ks
-  pub same : (outer : List (Outer S)) (here : List S) (asked : Asked) (x y : Reading) (k : TokenKind)
-      (ks : List TokenKind) → reads most x k ≡ reads most y k
+  pub same : (outer : List (Outer S)) (here : List S) (asked : Asked) (x y : Reading) (k : Kind)
+      (ks : List Kind) → reads most x k ≡ reads most y k
       → go (Among outer here (InPart (Inside asked x))) (k ∷ ks) ≡ go (Among outer here (InPart (Inside asked y))) (k ∷ ks)
-  pub settles : (outer : List (Outer S)) (here : List S) (test : Test) (first : List S) (ks : List TokenKind)
+  pub settles : (outer : List (Outer S)) (here : List S) (test : Test) (first : List S) (ks : List Kind)
       → NoElse ks → go (Among outer here (MayElse test first)) ks ≡ go (Among outer (chosen make here test first) Ready) ks
-  pub own : {tokens : List TokenKind} {s : S} → Own tokens s → (outer : List (Outer S)) (here : List S)
-      (ks : List TokenKind) → go (Among outer here Ready) (tokens ++ ks) ≡ go (Among outer (here ++ s ∷ []) Ready) ks
-  pub own_starts : {tokens : List TokenKind} {s : S} → Own tokens s → (ks : List TokenKind) → NoElse (tokens ++ ks)
+  pub own : {tokens : List Kind} {s : S} → Own tokens s → (outer : List (Outer S)) (here : List S)
+      (ks : List Kind) → go (Among outer here Ready) (tokens ++ ks) ≡ go (Among outer (here ++ s ∷ []) Ready) ks
+  pub own_starts : {tokens : List Kind} {s : S} → Own tokens s → (ks : List Kind) → NoElse (tokens ++ ks)
 
 -- a token other than `else` after the first block of a choice
 pub settled_kind : {S : Type 0} (make : Makers S) (outer : List (Outer S)) (here : List S) (test : Test)
-    (first : List S) (k : TokenKind) (ks : List TokenKind) → NoElse (k ∷ ks)
+    (first : List S) (k : Kind) (ks : List Kind) → NoElse (k ∷ ks)
     → elsing make outer here test first k ≡ between_statements make outer (chosen make here test first) k
 settled_kind make outer here test first kind.Else ks h = absurd h
 settled_kind make outer here test first _ ks h = refl
@@ -43,14 +43,14 @@ pub settled_end : {S : Type 0} (make : Makers S) (outer : List (Outer S)) (here 
 settled_end make [] here test first = refl
 settled_end make (o ∷ outer) here test first = refl
 
-last_in : (tokens rest more : List TokenKind) (k : TokenKind) → (tokens ++ k ∷ rest) ++ more ≡ tokens
+last_in : (tokens rest more : List Kind) (k : Kind) → (tokens ++ k ∷ rest) ++ more ≡ tokens
     ++ (k ∷ (rest ++ more))
 last_in tokens rest more k = append_assoc tokens (k ∷ rest) more
 
-module _ {S : Type 0} {make : Makers S} {Own : List TokenKind → S → Type 0} {most : Limits} {outside : ℕ} {R : Type 0}
-    (go : Blocks S → List TokenKind → R) (runs : StatementRuns make Own most outside go) where
-  no_else : {depth : ℕ} {tokens : List TokenKind} {ss : List S} → Spelled make Own most depth tokens ss
-      → (more : List TokenKind) → NoElse more → NoElse (tokens ++ more)
+module _ {S : Type 0} {make : Makers S} {Own : List Kind → S → Type 0} {most : Limits} {outside : ℕ} {R : Type 0}
+    (go : Blocks S → List Kind → R) (runs : StatementRuns make Own most outside go) where
+  no_else : {depth : ℕ} {tokens : List Kind} {ss : List S} → Spelled make Own most depth tokens ss
+      → (more : List Kind) → NoElse more → NoElse (tokens ++ more)
   no_else NoneLeft more h = h
   no_else (Adds {tokens = tokens} {rest = rest} own w) more h =
       rw (append_assoc tokens rest more) (runs.own_starts own (rest ++ more))
@@ -66,7 +66,7 @@ module _ {S : Type 0} {make : Makers S} {Own : List TokenKind → S → Type 0} 
   }
 
   enters : (outer : List (Outer S)) (here : List S) (test : Test) (next : Outer S) (x : Blocks S) (depth : ℕ)
-      (ks : List TokenKind)
+      (ks : List Kind)
       → performed make most outside x kind.LBrace
       ≡ with_braces (nat_lt (depth_in outside outer) most.braces) (Among (next ∷ outer) [] Ready)
       → depth_in outside outer ≡ depth → depth < most.braces
@@ -76,14 +76,14 @@ module _ {S : Type 0} {make : Makers S} {Own : List TokenKind → S → Type 0} 
       (does ∙ ap (λ b. with_braces b (Among (next ∷ outer) [] Ready))
       (lt-ltb (depth_in outside outer) most.braces (omega arith)))
 
-  more_added : (outer : List (Outer S)) (here : List S) (s : S) (others : List S) (ks : List TokenKind)
+  more_added : (outer : List (Outer S)) (here : List S) (s : S) (others : List S) (ks : List Kind)
       → go (Among outer ((here ++ s ∷ []) ++ others) Ready) ks ≡ go (Among outer (here ++ (s ∷ others)) Ready) ks
   more_added outer here s others ks =
       ap (λ z. go (Among outer z Ready) ks) (append_assoc here (s ∷ []) others)
 
   -- statements are read as their list
-  pub statements_read : {depth : ℕ} {tokens : List TokenKind} {ss : List S} → Spelled make Own most depth tokens ss
-      → (outer : List (Outer S)) (here : List S) (more : List TokenKind) → depth_in outside outer ≡ depth
+  pub statements_read : {depth : ℕ} {tokens : List Kind} {ss : List S} → Spelled make Own most depth tokens ss
+      → (outer : List (Outer S)) (here : List S) (more : List Kind) → depth_in outside outer ≡ depth
       → NoElse more
       → go (Among outer here Ready) (tokens ++ more) ≡ go (Among outer (here ++ ss) Ready) more
   statements_read NoneLeft outer here more deep free =

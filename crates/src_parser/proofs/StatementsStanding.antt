@@ -2,84 +2,84 @@
 -- language.
 use Rattle.std.proofs.Common.{◌≡◌, ℕ, ◌+◌, ◌<◌, List, [], ◌∷◌, ◌++◌, Some, refl, sym, ap, ◌∙◌, subst, append_assoc, arith}
 use Rattle.std.proofs.lemmas.List.{append-nil}
-use Rattle.src_lexer.specs.declared.tokens.TokenKind.{TokenKind}
+use Rattle.src_lexer.specs.declared.tokens.Kind.{Kind}
 use Rattle.src_tree.specs.Prelude.{Test}
 use Rattle.src_parser.specs.Prelude.{Limits, Compares, Form, ForChoice, ForLoop, Part, Made, Makers, Outer, InFirst, InSecond, InLoop, Phase, Ready, MayElse, InPart, Guarded, Otherwise, Blocks, Among, depth_in, depth_of, chosen, complete_of}
 use Rattle.src_parser.proofs.Held.{HasNoName, no_name_in_both}
 use Rattle.src_parser.proofs.PartTokens.{word_of, PartStands, Makes, MakesVariable, MakesElement, MakesGuard, PartCompletes, part_completes}
 use Rattle.src_parser.proofs.Spelled.{Spelled, NoneLeft, Assigns, Stores, Decides, DecidesElse, Loops, spelled_at, spelled_both}
-use Rattle.src_lexer.specs.declared.tokens.TokenKind.TheVariants as kind
+use Rattle.src_lexer.specs.declared.tokens.Kind.TheVariants as kind
 
 -- these tokens lead into these open blocks, of the depth `depth`, with these statements in the innermost
-pub data Enclosed {S : Type 0} (make : Makers S) (Own : List TokenKind → S → Type 0) (most : Limits) (outside : ℕ)
-    : List (Outer S) → (depth : ℕ) → List S → List TokenKind → Type 0 where
-  Top : {here : List S} {ts : List TokenKind} → Spelled make Own most outside ts here
+pub data Enclosed {S : Type 0} (make : Makers S) (Own : List Kind → S → Type 0) (most : Limits) (outside : ℕ)
+    : List (Outer S) → (depth : ℕ) → List S → List Kind → Type 0 where
+  Top : {here : List S} {ts : List Kind} → Spelled make Own most outside ts here
       → Enclosed make Own most outside [] outside here ts
-  First : {outer : List (Outer S)} {depth : ℕ} {before here : List S} {tokens guard inner : List TokenKind}
+  First : {outer : List (Outer S)} {depth : ℕ} {before here : List S} {tokens guard inner : List Kind}
       {test : Test} → Enclosed make Own most outside outer depth before tokens → Compares most guard test
       → depth < most.braces → Spelled make Own most (depth + 1) inner here
       → Enclosed make Own most outside (InFirst test before ∷ outer) (depth + 1) here
       (tokens ++ (kind.If ∷ kind.LParen ∷ (guard ++ kind.RParen ∷ kind.LBrace ∷ inner)))
   Second : {outer : List (Outer S)} {depth : ℕ} {before first here : List S}
-      {tokens guard inner others : List TokenKind} {test : Test}
+      {tokens guard inner others : List Kind} {test : Test}
       → Enclosed make Own most outside outer depth before tokens → Compares most guard test → depth < most.braces
       → Spelled make Own most (depth + 1) inner first → Spelled make Own most (depth + 1) others here
       → Enclosed make Own most outside (InSecond test first before ∷ outer) (depth + 1) here
       (tokens ++ (kind.If ∷ kind.LParen
       ∷ (guard ++ kind.RParen ∷ kind.LBrace ∷ (inner ++ kind.RBrace ∷ kind.Else ∷ kind.LBrace ∷ others))))
-  Looped : {outer : List (Outer S)} {depth : ℕ} {before here : List S} {tokens guard inner : List TokenKind}
+  Looped : {outer : List (Outer S)} {depth : ℕ} {before here : List S} {tokens guard inner : List Kind}
       {test : Test} → Enclosed make Own most outside outer depth before tokens → Compares most guard test
       → depth < most.braces → Spelled make Own most (depth + 1) inner here
       → Enclosed make Own most outside (InLoop test before ∷ outer) (depth + 1) here
       (tokens ++ (kind.While ∷ kind.LParen ∷ (guard ++ kind.RParen ∷ kind.LBrace ∷ inner)))
 
 -- these tokens of a statement lead to this phase
-pub data Stands {S : Type 0} (make : Makers S) (Own : List TokenKind → S → Type 0) (most : Limits) (depth : ℕ)
-    : Phase S → List TokenKind → Type 0 where
+pub data Stands {S : Type 0} (make : Makers S) (Own : List Kind → S → Type 0) (most : Limits) (depth : ℕ)
+    : Phase S → List Kind → Type 0 where
   IsReady : Stands make Own most depth Ready []
-  IsMayElse : {guard inner : List TokenKind} {test : Test} {first : List S}
+  IsMayElse : {guard inner : List Kind} {test : Test} {first : List S}
       → Compares most guard test → depth < most.braces → Spelled make Own most (depth + 1) inner first
       → Stands make Own most depth (MayElse test first)
       (kind.If ∷ kind.LParen ∷ (guard ++ kind.RParen ∷ kind.LBrace ∷ (inner ++ kind.RBrace ∷ [])))
-  IsPart : {part : Part} {tokens : List TokenKind} → PartStands most part tokens
+  IsPart : {part : Part} {tokens : List Kind} → PartStands most part tokens
       → Stands make Own most depth (InPart part) tokens
-  IsGuarded : {guard : List TokenKind} {test : Test} (form : Form) → Compares most guard test →
+  IsGuarded : {guard : List Kind} {test : Test} (form : Form) → Compares most guard test →
       Stands make Own most depth (Guarded form test) (word_of form ∷ kind.LParen ∷ (guard ++ kind.RParen ∷ []))
-  IsOtherwise : {guard inner : List TokenKind} {test : Test} {first : List S}
+  IsOtherwise : {guard inner : List Kind} {test : Test} {first : List S}
       → Compares most guard test → depth < most.braces → Spelled make Own most (depth + 1) inner first
       → Stands make Own most depth (Otherwise test first)
       (kind.If ∷ kind.LParen ∷ (guard ++ kind.RParen ∷ kind.LBrace ∷ (inner ++ kind.RBrace ∷ kind.Else ∷ [])))
 
 -- these tokens lead to this state of statements
-pub data StatementsStand {S : Type 0} (make : Makers S) (Own : List TokenKind → S → Type 0) (most : Limits)
-    (outside : ℕ) : Blocks S → List TokenKind → Type 0 where
-  InBlock : {outer : List (Outer S)} {depth : ℕ} {here : List S} {phase : Phase S} {ts us : List TokenKind}
+pub data StatementsStand {S : Type 0} (make : Makers S) (Own : List Kind → S → Type 0) (most : Limits)
+    (outside : ℕ) : Blocks S → List Kind → Type 0 where
+  InBlock : {outer : List (Outer S)} {depth : ℕ} {here : List S} {phase : Phase S} {ts us : List Kind}
       → Enclosed make Own most outside outer depth here ts → Stands make Own most depth phase us
       → StatementsStand make Own most outside (Among outer here phase) (ts ++ us)
 
 -- with some more tokens, of which none is a name, these are statements
-pub record Completed {S : Type 0} (make : Makers S) (Own : List TokenKind → S → Type 0) (most : Limits)
-    (outside : ℕ) (tokens : List TokenKind) : Type 0 where
-  pub more : List TokenKind
+pub record Completed {S : Type 0} (make : Makers S) (Own : List Kind → S → Type 0) (most : Limits)
+    (outside : ℕ) (tokens : List Kind) : Type 0 where
+  pub more : List Kind
   pub nameless : HasNoName more
   pub statements : List S
   pub spelled : Spelled make Own most outside (tokens ++ more) statements
 
-module _ {S : Type 0} {make : Makers S} {Own : List TokenKind → S → Type 0} {most : Limits} {outside : ℕ} where
+module _ {S : Type 0} {make : Makers S} {Own : List Kind → S → Type 0} {most : Limits} {outside : ℕ} where
   -- the number of open braces is the depth
-  pub enclosed_depth : {outer : List (Outer S)} {depth : ℕ} {here : List S} {ts : List TokenKind}
+  pub enclosed_depth : {outer : List (Outer S)} {depth : ℕ} {here : List S} {ts : List Kind}
       → Enclosed make Own most outside outer depth here ts → depth_in outside outer ≡ depth
   enclosed_depth (Top w) = omega arith
   enclosed_depth (First e g room w) = let h = enclosed_depth e in omega arith
   enclosed_depth (Second e g room w v) = let h = enclosed_depth e in omega arith
   enclosed_depth (Looped e g room w) = let h = enclosed_depth e in omega arith
 
-  enclosed_at : {outer : List (Outer S)} {depth : ℕ} {here : List S} (xs ys : List TokenKind) → xs ≡ ys
+  enclosed_at : {outer : List (Outer S)} {depth : ℕ} {here : List S} (xs ys : List Kind) → xs ≡ ys
       → Enclosed make Own most outside outer depth here xs → Enclosed make Own most outside outer depth here ys
   enclosed_at {outer} {depth} {here} xs ys e w = subst (λ z. Enclosed make Own most outside outer depth here z) e w
 
   -- one more statement
-  pub one_statement : {outer : List (Outer S)} {depth : ℕ} {here : List S} {ts us : List TokenKind} {s : S}
+  pub one_statement : {outer : List (Outer S)} {depth : ℕ} {here : List S} {ts us : List Kind} {s : S}
       → Enclosed make Own most outside outer depth here ts → Spelled make Own most depth us (s ∷ [])
       → Enclosed make Own most outside outer depth (here ++ s ∷ []) (ts ++ us)
   one_statement (Top w) v = Top (spelled_both w v)
@@ -91,11 +91,11 @@ module _ {S : Type 0} {make : Makers S} {Own : List TokenKind → S → Type 0} 
   one_statement {us = us} (Looped {tokens = tokens} {guard = guard} {inner = inner} e g room w) v =
       enclosed_at _ _ (simp append_assoc refl) (Looped e g room (spelled_both w v))
 
-  completed_at : (xs ys : List TokenKind) → xs ≡ ys → Completed make Own most outside xs
+  completed_at : (xs ys : List Kind) → xs ≡ ys → Completed make Own most outside xs
       → Completed make Own most outside ys
   completed_at xs ys e c = subst (λ z. Completed make Own most outside z) e c
 
-  shorter : (ts us : List TokenKind) → HasNoName us → Completed make Own most outside (ts ++ us)
+  shorter : (ts us : List Kind) → HasNoName us → Completed make Own most outside (ts ++ us)
       → Completed make Own most outside ts
   shorter ts us none c = record {
     more = us ++ c.more;
@@ -105,7 +105,7 @@ module _ {S : Type 0} {make : Makers S} {Own : List TokenKind → S → Type 0} 
   }
 
   -- open blocks are closed
-  pub block_completes : (outer : List (Outer S)) {depth : ℕ} {here : List S} {ts : List TokenKind}
+  pub block_completes : (outer : List (Outer S)) {depth : ℕ} {here : List S} {ts : List Kind}
       → Enclosed make Own most outside outer depth here ts → Completed make Own most outside ts
   block_completes [] (Top {here = here} {ts = ts} w) = record {
     more = [];
@@ -127,16 +127,16 @@ module _ {S : Type 0} {make : Makers S} {Own : List TokenKind → S → Type 0} 
       (block_completes outer (one_statement e (Loops g room w NoneLeft))))
 
   -- a statement that some more tokens complete
-  pub statement_completes : {outer : List (Outer S)} {depth : ℕ} {here : List S} {ts : List TokenKind} {s : S}
-      (us more : List TokenKind) → HasNoName more → Enclosed make Own most outside outer depth here ts
+  pub statement_completes : {outer : List (Outer S)} {depth : ℕ} {here : List S} {ts : List Kind} {s : S}
+      (us more : List Kind) → HasNoName more → Enclosed make Own most outside outer depth here ts
       → Spelled make Own most depth (us ++ more) (s ∷ []) → Completed make Own most outside (ts ++ us)
   statement_completes {outer = outer} {ts = ts} us more none e w =
       shorter (ts ++ us) more none
       (completed_at _ _ (sym (append_assoc ts us more)) (block_completes outer (one_statement e w)))
 
   -- a guard with an empty block
-  form_completes : {outer : List (Outer S)} {depth : ℕ} {here : List S} {ts guard : List TokenKind} {test : Test}
-      (form : Form) (us more : List TokenKind) → HasNoName more → Enclosed make Own most outside outer depth here ts
+  form_completes : {outer : List (Outer S)} {depth : ℕ} {here : List S} {ts guard : List Kind} {test : Test}
+      (form : Form) (us more : List Kind) → HasNoName more → Enclosed make Own most outside outer depth here ts
       → depth < most.braces → Compares most guard test
       → word_of form ∷ kind.LParen ∷ (guard ++ kind.RParen ∷ kind.LBrace ∷ kind.RBrace ∷ []) ≡ us ++ more
       → Completed make Own most outside (ts ++ us)
@@ -146,8 +146,8 @@ module _ {S : Type 0} {make : Makers S} {Own : List TokenKind → S → Type 0} 
       statement_completes us more none e (spelled_at _ _ is (Loops g room NoneLeft NoneLeft))
 
   -- a part that some more tokens complete, with an empty block after a guard
-  made_completes : {outer : List (Outer S)} {depth : ℕ} {here : List S} {ts all : List TokenKind} {made : Made}
-      (us more : List TokenKind) → HasNoName more → Enclosed make Own most outside outer depth here ts
+  made_completes : {outer : List (Outer S)} {depth : ℕ} {here : List S} {ts all : List Kind} {made : Made}
+      (us more : List Kind) → HasNoName more → Enclosed make Own most outside outer depth here ts
       → depth < most.braces → Makes most made all → all ≡ us ++ more → Completed make Own most outside (ts ++ us)
   made_completes us more none e room (MakesVariable name s fits) is =
       statement_completes us more none e (spelled_at _ _ is (Assigns name s fits NoneLeft))
@@ -160,12 +160,12 @@ module _ {S : Type 0} {make : Makers S} {Own : List TokenKind → S → Type 0} 
       (sym (append_assoc guard (kind.RParen ∷ []) (kind.LBrace ∷ kind.RBrace ∷ [])))
       ∙ (ap (λ z. z ++ kind.LBrace ∷ kind.RBrace ∷ []) is ∙ append_assoc us more (kind.LBrace ∷ kind.RBrace ∷ [])))
 
-  part_stands_completes : {outer : List (Outer S)} {depth : ℕ} {here : List S} {ts us : List TokenKind}
+  part_stands_completes : {outer : List (Outer S)} {depth : ℕ} {here : List S} {ts us : List Kind}
       → Enclosed make Own most outside outer depth here ts → depth < most.braces → PartCompletes most us
       → Completed make Own most outside (ts ++ us)
   part_stands_completes {us = us} e room c = made_completes us c.more c.nameless e room c.makes refl
 
-  phase_completes : {outer : List (Outer S)} {depth : ℕ} {here : List S} {ts us : List TokenKind} {phase : Phase S}
+  phase_completes : {outer : List (Outer S)} {depth : ℕ} {here : List S} {ts us : List Kind} {phase : Phase S}
       → Enclosed make Own most outside outer depth here ts → depth < most.braces
       → Stands make Own most depth phase us → Completed make Own most outside (ts ++ us)
   phase_completes {outer = outer} {ts = ts} e room IsReady =
@@ -183,13 +183,13 @@ module _ {S : Type 0} {make : Makers S} {Own : List TokenKind → S → Type 0} 
       (spelled_at _ _ (simp append_assoc refl) (DecidesElse g fit w NoneLeft NoneLeft))
 
   -- tokens that lead to a state within the limit of braces can be completed to statements
-  pub statements_complete : {blocks : Blocks S} {tokens : List TokenKind}
+  pub statements_complete : {blocks : Blocks S} {tokens : List Kind}
       → StatementsStand make Own most outside blocks tokens → depth_of outside blocks < most.braces
       → Completed make Own most outside tokens
   statements_complete (InBlock e s) room = let deep = enclosed_depth e in phase_completes e (omega arith) s
 
   -- a state with complete statements has read them
-  pub complete_spelled : {blocks : Blocks S} {tokens : List TokenKind}
+  pub complete_spelled : {blocks : Blocks S} {tokens : List Kind}
       → StatementsStand make Own most outside blocks tokens → (ss : List S) → complete_of make blocks ≡ Some ss
       → Spelled make Own most outside tokens ss
   complete_spelled (InBlock (Top {here = here} {ts = ts} w) IsReady) ss e =

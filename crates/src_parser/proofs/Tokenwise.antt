@@ -2,10 +2,10 @@
 use Rattle.std.proofs.Common.{◌≡◌, ◌≢◌, ◌⊎◌, inl, inr, ℕ, ◌+◌, ◌<◌, ◌≤◌, List, [], ◌∷◌, ◌++◌, Option, Some, None, refl, sym, ap, ◌∙◌, subst, append_assoc, arith}
 use Rattle.std.proofs.lemmas.Bool.{cases_lt}
 use Rattle.std.proofs.lemmas.List.{append-nil, map-append}
-use Rattle.src_lexer.specs.declared.tokens.TokenKind.{TokenKind}
+use Rattle.src_lexer.specs.declared.tokens.Kind.{Kind}
 use Rattle.src_lexer.specs.declared.tokens.Token.{Token}
 use Rattle.src_parser.specs.Prelude.{Limits, limits, token_kinds, Shallow, Advance, Goes, Wrong, TooMuch, then_advance, advances, after_advance, parsed, Completes, Begins}
-use Rattle.src_lexer.specs.declared.tokens.TokenKind.TheVariants as kind
+use Rattle.src_lexer.specs.declared.tokens.Kind.TheVariants as kind
 
 -- there is room for what is needed
 pub record Fits (need most : Limits) : Type 0 where
@@ -14,21 +14,21 @@ pub record Fits (need most : Limits) : Type 0 where
   pub operators : need.operators ≤ most.operators
 
 -- the open braces before and after a token that is read
-abbrev pub Counted : TokenKind → (most before after : ℕ) → Type 0
+abbrev pub Counted : Kind → (most before after : ℕ) → Type 0
 Counted kind.LBrace most before after = (before < most) × (after ≡ before + 1)
 Counted kind.RBrace most before after = before ≡ after + 1
 Counted _ most before after = after ≡ before
 
 -- the effect of a token depends on the limits in only one way: it is read if there is room, and exceeds a limit
 -- otherwise; the limit of braces matters only for a `{`
-pub data Shape (S : Type 0) (k : TokenKind) (count : ℕ) (f : Limits → Advance S) : Type 0 where
+pub data Shape (S : Type 0) (k : Kind) (count : ℕ) (f : Limits → Advance S) : Type 0 where
   Always : (t : Advance S) → t ≢ TooMuch → ((most : Limits) → f most ≡ t) → Shape S k count f
   Where : (need : Limits) (next : S) → ((most : Limits) → Fits need most → f most ≡ Goes next)
       → ((most : Limits) → (f most ≡ TooMuch) ⊎ Fits need most)
       → (need.braces ≡ 0) ⊎ ((k ≡ kind.LBrace) × (need.braces ≡ count + 1)) → Shape S k count f
 
 -- what is read within some limits is read within wider ones
-wider_shape : {S : Type 0} {k : TokenKind} {count : ℕ} {f : Limits → Advance S}
+wider_shape : {S : Type 0} {k : Kind} {count : ℕ} {f : Limits → Advance S}
     → Shape S k count f → (most wide : Limits) (next : S) → Fits most wide → f most ≡ Goes next → f wide
     ≡ Goes next
 wider_shape (Always t h is) most wide next fits e = let a = is most in let b = is wide in cc
@@ -43,7 +43,7 @@ wider_shape {f = f} (Where need s goes much braces) most wide next fits e =
     ]
 
 -- for any limits, a token that is read leads to the same state, or exceeds a limit
-same_shape : {S : Type 0} {k : TokenKind} {count : ℕ} {f : Limits → Advance S} → Shape S k count f
+same_shape : {S : Type 0} {k : Kind} {count : ℕ} {f : Limits → Advance S} → Shape S k count f
     → (most other : Limits) (next : S)
     → f most ≡ Goes next → (f other ≡ Goes next) ⊎ (f other ≡ TooMuch)
 same_shape (Always t h is) most other next e = let a = is most in let b = is other in inl (cc)
@@ -57,7 +57,7 @@ same_shape {f = f} (Where need s goes much braces) most other next e =
     ]
 
 -- a token that is wrong for some limits is wrong for any
-wrong_shape : {S : Type 0} {k : TokenKind} {count : ℕ} {f : Limits → Advance S}
+wrong_shape : {S : Type 0} {k : Kind} {count : ℕ} {f : Limits → Advance S}
     → Shape S k count f → (most other : Limits) → f most ≡ Wrong → f other ≡ Wrong
 wrong_shape (Always t h is) most other e = let a = is most in let b = is other in cc
 wrong_shape {f = f} (Where need s goes much braces) most other e =
@@ -70,7 +70,7 @@ pub record ReadWider (S : Type 0) (most : Limits) (f : Limits → Advance S) : T
   pub fits : Fits most wide
   pub goes : f wide ≡ Goes next
 
-deep_shape : {S : Type 0} {k : TokenKind} {count : ℕ} {f : Limits → Advance S}
+deep_shape : {S : Type 0} {k : Kind} {count : ℕ} {f : Limits → Advance S}
     → Shape S k count f → (most : Limits) → f most ≡ TooMuch → ReadWider S most f
 deep_shape (Always t h is) most e = absurd (h (let a = is most in cc))
 deep_shape (Where need s goes much braces) most e = record {
@@ -85,7 +85,7 @@ deep_shape (Where need s goes much braces) most e = record {
 }
 
 -- if two limits differ only in the braces, only a brace can exceed one and not the other
-brace_shape : {S : Type 0} {k : TokenKind} {count : ℕ} {f : Limits → Advance S} → Shape S k count f
+brace_shape : {S : Type 0} {k : Kind} {count : ℕ} {f : Limits → Advance S} → Shape S k count f
     → (most other : Limits) (next : S)
     → most.brackets ≡ other.brackets → most.operators ≡ other.operators
     → f most ≡ TooMuch → f other ≡ Goes next → (k ≡ kind.LBrace) × (most.braces ≤ count)
@@ -112,58 +112,58 @@ brace_shape {k} {count} {f} (Where need s goes much (inr some)) most other next 
       )
     ]
 
-shallow_step : (most before after : ℕ) (k : TokenKind) (ks : List TokenKind)
+shallow_step : (most before after : ℕ) (k : Kind) (ks : List Kind)
     → Counted k most before after → Shallow most after ks → Shallow most before (k ∷ ks)
 shallow_step most before after kind.LBrace ks c s = (c.0, subst (λ n. Shallow most n ks) c.1 s)
 shallow_step most before after kind.RBrace ks c s = subst (λ n. Shallow most n ks) (omega arith) s
 shallow_step most before after _ ks c s = subst (λ n. Shallow most n ks) c s
 
-fewer : (most before after : ℕ) (k : TokenKind) → Counted k most before after → before ≤ most → after ≤ most
+fewer : (most before after : ℕ) (k : Kind) → Counted k most before after → before ≤ most → after ≤ most
 fewer most before after kind.LBrace c h = let a = c.0 in let b = c.1 in omega arith
 fewer most before after kind.RBrace c h = omega arith
 fewer most before after _ c h = omega arith
 
-deeper_step : (most before after : ℕ) (k : TokenKind) (ks : List TokenKind)
+deeper_step : (most before after : ℕ) (k : Kind) (ks : List Kind)
     → Counted k most before after → Shallow most before (k ∷ ks) → Shallow most after ks
 deeper_step most before after kind.LBrace ks c s = subst (λ n. Shallow most n ks) (sym c.1) s.1
 deeper_step most before after kind.RBrace ks c s = subst (λ n. Shallow most n ks) (omega arith) s
 deeper_step most before after _ ks c s = subst (λ n. Shallow most n ks) (sym c) s
 
 -- what is known about single tokens, and about the states to which tokens lead (`Standing`)
-pub record Laws {S P : Type 0} (advanced : Limits → S → TokenKind → Advance S) (gives : S → Option P)
+pub record Laws {S P : Type 0} (advanced : Limits → S → Kind → Advance S) (gives : S → Option P)
     (open_braces : S → ℕ)
-    (start : S) (Sentence : Limits → List TokenKind → P → Type 0) (Standing : Limits → S → List TokenKind → Type 0)
+    (start : S) (Sentence : Limits → List Kind → P → Type 0) (Standing : Limits → S → List Kind → Type 0)
     : Type 0 where
-  pub shape : (state : S) (k : TokenKind) → Shape S k (open_braces state) (λ most. advanced most state k)
-  pub counted : (most : Limits) (state : S) (k : TokenKind) (next : S) → advanced most state k ≡ Goes next
+  pub shape : (state : S) (k : Kind) → Shape S k (open_braces state) (λ most. advanced most state k)
+  pub counted : (most : Limits) (state : S) (k : Kind) (next : S) → advanced most state k ≡ Goes next
       → Counted k most.braces (open_braces state) (open_braces next)
   pub starts : open_braces start ≡ 0
   pub nothing_read : (most : Limits) → Standing most start []
-  pub steps : (most : Limits) (state : S) (tokens : List TokenKind) → Standing most state tokens
-      → (k : TokenKind) (next : S) → advanced most state k ≡ Goes next → Standing most next (tokens ++ k ∷ [])
-  pub completes : (most : Limits) (state : S) (tokens : List TokenKind) → Standing most state tokens
+  pub steps : (most : Limits) (state : S) (tokens : List Kind) → Standing most state tokens
+      → (k : Kind) (next : S) → advanced most state k ≡ Goes next → Standing most next (tokens ++ k ∷ [])
+  pub completes : (most : Limits) (state : S) (tokens : List Kind) → Standing most state tokens
       → open_braces state < most.braces → Completes Sentence most tokens
-  pub finished : (most : Limits) (state : S) (tokens : List TokenKind) → Standing most state tokens
+  pub finished : (most : Limits) (state : S) (tokens : List Kind) → Standing most state tokens
       → (tree : P) → gives state ≡ Some tree → Sentence most tokens tree
-  pub read : (most : Limits) (tokens : List TokenKind) (tree : P) → Sentence most tokens tree
+  pub read : (most : Limits) (tokens : List Kind) (tree : P) → Sentence most tokens tree
       → parsed advanced gives most start tokens ≡ Some tree
 
-module _ {S P : Type 0} {advanced : Limits → S → TokenKind → Advance S} {gives : S → Option P} {open_braces : S → ℕ}
-    {start : S} {Sentence : Limits → List TokenKind → P → Type 0} {Standing : Limits → S → List TokenKind → Type 0}
+module _ {S P : Type 0} {advanced : Limits → S → Kind → Advance S} {gives : S → Option P} {open_braces : S → ℕ}
+    {start : S} {Sentence : Limits → List Kind → P → Type 0} {Standing : Limits → S → List Kind → Type 0}
     (laws : Laws advanced gives open_braces start Sentence Standing) where
-  abbrev goes_over : Limits → S → List TokenKind → Advance S
+  abbrev goes_over : Limits → S → List Kind → Advance S
   goes_over = advances advanced
 
-  abbrev tree_of : Limits → S → List TokenKind → Option P
+  abbrev tree_of : Limits → S → List Kind → Option P
   tree_of = parsed advanced gives
 
-  abbrev ProgramBegins : Limits → List TokenKind → Type 0
+  abbrev ProgramBegins : Limits → List Kind → Type 0
   ProgramBegins = Begins Sentence
 
   abbrev program_of : S → Option P
   program_of = gives
 
-  stands_step : (most : Limits) (tokens : List TokenKind) (k : TokenKind) (ks : List TokenKind) (state : S)
+  stands_step : (most : Limits) (tokens : List Kind) (k : Kind) (ks : List Kind) (state : S)
       (t : Advance S)
       (last : S) → ((next : S) → Standing most next (tokens ++ k ∷ []) → goes_over most next ks ≡ Goes last
       → Standing most last ((tokens ++ k ∷ []) ++ ks)) → Standing most state tokens → advanced most state k ≡ t
@@ -174,7 +174,7 @@ module _ {S P : Type 0} {advanced : Limits → S → TokenKind → Advance S} {g
   stands_step most tokens k ks state Wrong last rest s is e = absurd (cc)
   stands_step most tokens k ks state TooMuch last rest s is e = absurd (cc)
 
-  stands_many : (most : Limits) (ks tokens : List TokenKind) (state last : S) → Standing most state tokens
+  stands_many : (most : Limits) (ks tokens : List Kind) (state last : S) → Standing most state tokens
       → goes_over most state ks ≡ Goes last → Standing most last (tokens ++ ks)
   stands_many most [] tokens state last s e =
       let f : state ≡ last = cc in
@@ -184,19 +184,19 @@ module _ {S P : Type 0} {advanced : Limits → S → TokenKind → Advance S} {g
       (λ next r g. stands_many most ks (tokens ++ k ∷ []) next last r g) s refl e
 
   -- each state to which tokens lead has read them
-  stands : (most : Limits) (tokens : List TokenKind) (last : S) → goes_over most start tokens ≡ Goes last
+  stands : (most : Limits) (tokens : List Kind) (last : S) → goes_over most start tokens ≡ Goes last
       → Standing most last tokens
   stands most tokens last e = stands_many most tokens [] start last (laws.nothing_read most) e
 
   -- tokens that were read are within the braces
-  pub record Read (most : Limits) (state : S) (tokens : List TokenKind) (last : S) : Type 0 where
-    pub shallow : (more : List TokenKind)
+  pub record Read (most : Limits) (state : S) (tokens : List Kind) (last : S) : Type 0 where
+    pub shallow : (more : List Kind)
         → Shallow most.braces (open_braces last) more → Shallow most.braces (open_braces state) (tokens ++ more)
     pub within : open_braces state ≤ most.braces → open_braces last ≤ most.braces
-    pub deeper : (more : List TokenKind)
+    pub deeper : (more : List Kind)
         → Shallow most.braces (open_braces state) (tokens ++ more) → Shallow most.braces (open_braces last) more
 
-  read_step : (most : Limits) (state : S) (k : TokenKind) (ks : List TokenKind) (t : Advance S) (last : S)
+  read_step : (most : Limits) (state : S) (k : Kind) (ks : List Kind) (t : Advance S) (last : S)
       → ((next : S) → goes_over most next ks ≡ Goes last → Read most next ks last)
       → advanced most state k ≡ t → then_advance t (λ next. goes_over most next ks) ≡ Goes last
       → Read most state (k ∷ ks) last
@@ -214,7 +214,7 @@ module _ {S P : Type 0} {advanced : Limits → S → TokenKind → Advance S} {g
   read_step most state k ks TooMuch last rest is e = absurd (cc)
 
   -- tokens that are read are within the limit of braces
-  pub read : (most : Limits) (tokens : List TokenKind) (state last : S)
+  pub read : (most : Limits) (tokens : List Kind) (state last : S)
       → goes_over most state tokens ≡ Goes last → Read most state tokens last
   read most [] state last e =
       let f : state ≡ last = cc in
@@ -222,7 +222,7 @@ module _ {S P : Type 0} {advanced : Limits → S → TokenKind → Advance S} {g
   read most (k ∷ ks) state last e =
       read_step most state k ks (advanced most state k) last (λ next g. read most ks next last g) refl e
 
-  wider_step : (most wide : Limits) (k : TokenKind) (ks : List TokenKind) (state : S) (t : Advance S)
+  wider_step : (most wide : Limits) (k : Kind) (ks : List Kind) (state : S) (t : Advance S)
       (last : S) → Fits most wide
       → ((next : S) → goes_over most next ks ≡ Goes last → goes_over wide next ks ≡ Goes last) → advanced most state k
       ≡ t
@@ -233,7 +233,7 @@ module _ {S P : Type 0} {advanced : Limits → S → TokenKind → Advance S} {g
   wider_step most wide k ks state Wrong last fits rest is e = absurd (cc)
   wider_step most wide k ks state TooMuch last fits rest is e = absurd (cc)
 
-  pub advances_wider : (most wide : Limits) (ks : List TokenKind) (state last : S)
+  pub advances_wider : (most wide : Limits) (ks : List Kind) (state last : S)
       → Fits most wide → goes_over most state ks ≡ Goes last → goes_over wide state ks ≡ Goes last
   advances_wider most wide [] state last fits e = e
   advances_wider most wide (k ∷ ks) state last fits e =
@@ -241,7 +241,7 @@ module _ {S P : Type 0} {advanced : Limits → S → TokenKind → Advance S} {g
       (λ next g. advances_wider most wide ks next last fits g) refl e
 
   -- tokens that were read begin a sentence
-  pub begins : (most : Limits) (tokens : List TokenKind) (last : S)
+  pub begins : (most : Limits) (tokens : List Kind) (last : S)
       → goes_over most start tokens ≡ Goes last → ProgramBegins most tokens
   begins most tokens last e =
       let wide : Limits = record { brackets = most.brackets; braces = most.braces + 1; operators = most.operators } in
@@ -261,7 +261,7 @@ module _ {S P : Type 0} {advanced : Limits → S → TokenKind → Advance S} {g
         sentence = c.sentence;
       }
 
-  through_step : (most other : Limits) (k : TokenKind) (ks more : List TokenKind) (state : S) (t : Advance S)
+  through_step : (most other : Limits) (k : Kind) (ks more : List Kind) (state : S) (t : Advance S)
       (last : S)
       (p : P) → ((next : S) → goes_over most next ks ≡ Goes last → tree_of other next (ks ++ more) ≡ Some p
       → tree_of other last more ≡ Some p) → advanced most state k ≡ t → then_advance t (λ next. goes_over most next ks)
@@ -279,7 +279,7 @@ module _ {S P : Type 0} {advanced : Limits → S → TokenKind → Advance S} {g
   through_step most other k ks more state TooMuch last p rest is e w = absurd (cc)
 
   -- for any limits, a sentence is read through the states to which its first tokens lead
-  pub through : (most other : Limits) (ks more : List TokenKind) (state last : S) (p : P)
+  pub through : (most other : Limits) (ks more : List Kind) (state last : S) (p : P)
       → goes_over most state ks ≡ Goes last → tree_of other state (ks ++ more) ≡ Some p → tree_of other last more
       ≡ Some p
   through most other [] more state last p e w =
@@ -288,7 +288,7 @@ module _ {S P : Type 0} {advanced : Limits → S → TokenKind → Advance S} {g
       through_step most other k ks more state (advanced most state k) last p
       (λ next g v. through most other ks more next last p g v) refl e w
 
-  goes_on : (most other : Limits) (tokens : List TokenKind) (k : TokenKind) (last : S) (more : List TokenKind)
+  goes_on : (most other : Limits) (tokens : List Kind) (k : Kind) (last : S) (more : List Kind)
       (p : P)
       → goes_over most start tokens ≡ Goes last
       → Sentence other ((tokens ++ k ∷ []) ++ more) p → tree_of other last (k ∷ more) ≡ Some p
@@ -297,7 +297,7 @@ module _ {S P : Type 0} {advanced : Limits → S → TokenKind → Advance S} {g
       (sym (ap (λ z. tree_of other start z) (append_assoc tokens (k ∷ []) more)) ∙ laws.read _ _ _ s)
 
   -- together with a token that is wrong, tokens begin no sentence
-  pub wrong_begins : (most other : Limits) (tokens : List TokenKind) (k : TokenKind) (last : S)
+  pub wrong_begins : (most other : Limits) (tokens : List Kind) (k : Kind) (last : S)
       → goes_over most start tokens ≡ Goes last → advanced most last k ≡ Wrong → ProgramBegins other (tokens ++ k ∷ [])
       → ⊥
   wrong_begins most other tokens k last e w b =
@@ -307,13 +307,13 @@ module _ {S P : Type 0} {advanced : Limits → S → TokenKind → Advance S} {g
       sym (ap (λ t. after_advance t (λ n. tree_of o n b.more)) (wrong_shape (laws.shape last k) most o w)) ∙ f in
       absurd (cc)
 
-  brace_fits : (most count : ℕ) (k : TokenKind) → k ≡ kind.LBrace → most ≤ count → Shallow most count (k ∷ []) → ⊥
+  brace_fits : (most count : ℕ) (k : Kind) → k ≡ kind.LBrace → most ≤ count → Shallow most count (k ∷ []) → ⊥
   brace_fits most count k is h s =
       let f : Shallow most count (kind.LBrace ∷ []) = subst (λ z. Shallow most count (z ∷ [])) is s in
       let g = f.0 in omega arith
 
-  much_step : (most other : Limits) (tokens : List TokenKind) (k : TokenKind) (last : S)
-      (more : List TokenKind) (p : P)
+  much_step : (most other : Limits) (tokens : List Kind) (k : Kind) (last : S)
+      (more : List Kind) (p : P)
       (t : Advance S) → most.brackets ≡ other.brackets → most.operators ≡ other.operators
       → advanced other last k ≡ t → after_advance t (λ n. tree_of other n more) ≡ Some p → advanced most last k
       ≡ TooMuch
@@ -325,7 +325,7 @@ module _ {S P : Type 0} {advanced : Limits → S → TokenKind → Advance S} {g
   much_step most other tokens k last more p TooMuch a b is w e s = absurd (cc)
 
   -- together with a token that exceeds the limits, tokens begin no sentence within the limits
-  pub much_begins : (most : Limits) (tokens : List TokenKind) (k : TokenKind) (last : S)
+  pub much_begins : (most : Limits) (tokens : List Kind) (k : Kind) (last : S)
       → goes_over most start tokens ≡ Goes last → advanced most last k ≡ TooMuch → ProgramBegins most (tokens ++ k ∷ [])
       → ⊥
   much_begins most tokens k last e w b =
@@ -339,7 +339,7 @@ module _ {S P : Type 0} {advanced : Limits → S → TokenKind → Advance S} {g
   pub advance_at : (t : Advance S) (next : S → Advance S) (last : S) → t ≡ Goes last → then_advance t next ≡ next last
   advance_at t next last e = ap (λ z. then_advance z next) e
 
-  more_step : (most : Limits) (k : TokenKind) (ks : List TokenKind) (t : Advance S) (last next : S)
+  more_step : (most : Limits) (k : Kind) (ks : List Kind) (t : Advance S) (last next : S)
       → ((s : S) → goes_over most s ks ≡ Goes last → goes_over most s (ks ++ k ∷ []) ≡ Goes next)
       → then_advance t (λ s. goes_over most s ks) ≡ Goes last → then_advance t (λ s. goes_over most s (ks ++ k ∷ []))
       ≡ Goes next
@@ -348,7 +348,7 @@ module _ {S P : Type 0} {advanced : Limits → S → TokenKind → Advance S} {g
   more_step most k ks TooMuch last next rest e = absurd (cc)
 
   -- one more advance
-  pub one_more_advance : (most : Limits) (ks : List TokenKind) (k : TokenKind) (state last next : S)
+  pub one_more_advance : (most : Limits) (ks : List Kind) (k : Kind) (state last next : S)
       → goes_over most state ks ≡ Goes last → advanced most last k ≡ Goes next → goes_over most state (ks ++ k ∷ [])
       ≡ Goes next
   one_more_advance most [] k state last next e g =
@@ -358,12 +358,12 @@ module _ {S P : Type 0} {advanced : Limits → S → TokenKind → Advance S} {g
       more_step most k ks (advanced most state k1) last next (λ s h. one_more_advance most ks k s last next h g) e
 
   -- tokens that begin a sentence within wider limits
-  pub record WiderBegins (tokens : List TokenKind) : Type 0 where
+  pub record WiderBegins (tokens : List Kind) : Type 0 where
     pub wide : Limits
     pub begins : ProgramBegins wide tokens
 
   -- together with a token that exceeds the limits, tokens begin a sentence within wider limits
-  pub wider_begins : (most : Limits) (tokens : List TokenKind) (k : TokenKind) (last : S)
+  pub wider_begins : (most : Limits) (tokens : List Kind) (k : Kind) (last : S)
       → goes_over most start tokens ≡ Goes last → advanced most last k ≡ TooMuch → WiderBegins (tokens ++ k ∷ [])
   wider_begins most tokens k last e w =
       let d = deep_shape (laws.shape last k) most w in
@@ -374,12 +374,12 @@ module _ {S P : Type 0} {advanced : Limits → S → TokenKind → Advance S} {g
       }
 
   -- tokens that lead to a complete tree are a sentence
-  pub whole_sentence : (most : Limits) (tokens : List TokenKind) (last : S) (p : P)
+  pub whole_sentence : (most : Limits) (tokens : List Kind) (last : S) (p : P)
       → goes_over most start tokens ≡ Goes last → program_of last ≡ Some p → Sentence most tokens p
   whole_sentence most tokens last p e w = laws.finished most last tokens (stands most tokens last e) p w
 
   -- tokens that lead to no complete tree aren't a sentence
-  pub no_sentence : (most : Limits) (tokens : List TokenKind) (last : S) (p : P)
+  pub no_sentence : (most : Limits) (tokens : List Kind) (last : S) (p : P)
       → goes_over most start tokens ≡ Goes last → program_of last ≡ None → Sentence most tokens p → ⊥
   no_sentence most tokens last p e w s =
       let f =
@@ -388,11 +388,11 @@ module _ {S P : Type 0} {advanced : Limits → S → TokenKind → Advance S} {g
       absurd (cc)
 
   -- the tokens of a sentence are read one by one
-  pub record Reads (most : Limits) (tokens : List TokenKind) (state : S) : Type 0 where
+  pub record Reads (most : Limits) (tokens : List Kind) (state : S) : Type 0 where
     pub last : S
     pub advances_to : goes_over most state tokens ≡ Goes last
 
-  reads_step : (most : Limits) (k : TokenKind) (ks more : List TokenKind) (state : S) (t : Advance S) (p : P)
+  reads_step : (most : Limits) (k : Kind) (ks more : List Kind) (state : S) (t : Advance S) (p : P)
       → ((next : S) → tree_of most next (ks ++ more) ≡ Some p → Reads most ks next) → advanced most state k ≡ t
       → after_advance t (λ next. tree_of most next (ks ++ more)) ≡ Some p → Reads most (k ∷ ks) state
   reads_step most k ks more state (Goes next) p rest is e =
@@ -401,14 +401,14 @@ module _ {S P : Type 0} {advanced : Limits → S → TokenKind → Advance S} {g
   reads_step most k ks more state Wrong p rest is e = absurd (cc)
   reads_step most k ks more state TooMuch p rest is e = absurd (cc)
 
-  reads_front : (most : Limits) (ks more : List TokenKind) (state : S) (p : P)
+  reads_front : (most : Limits) (ks more : List Kind) (state : S) (p : P)
       → tree_of most state (ks ++ more) ≡ Some p → Reads most ks state
   reads_front most [] more state p e = record { last = state; advances_to = refl }
   reads_front most (k ∷ ks) more state p e =
       reads_step most k ks more state (advanced most state k) p (λ next g. reads_front most ks more next p g) refl e
 
   -- each prefix of a sentence begins one
-  pub front_begins : (most : Limits) (front back : List TokenKind) (p : P)
+  pub front_begins : (most : Limits) (front back : List Kind) (p : P)
       → Sentence most (front ++ back) p → ProgramBegins most front
   front_begins most front back p s =
       let r = reads_front most front back start p (laws.read _ _ _ s) in begins most front r.last r.advances_to

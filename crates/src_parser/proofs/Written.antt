@@ -1,12 +1,12 @@
 -- The statements of programs by their grammar, as those of any language.
 use Rattle.std.proofs.Common.{◌≡◌, ℕ, List, [], ◌∷◌, refl, ap, subst}
-use Rattle.src_lexer.specs.declared.tokens.TokenKind.{TokenKind}
+use Rattle.src_lexer.specs.declared.tokens.Kind.{Kind}
 use Rattle.src_tree.specs.Prelude.{Statement, Choice, Loop, Block, Nothing, Then, block_of}
 use Rattle.src_parser.specs.Prelude.{programs, Limits, Writes, Ends, Sets, Puts, Chooses, ChoosesElse, Repeats}
 use Rattle.src_parser.proofs.Spelled.{Spelled, NoneLeft, Assigns, Stores, Decides, DecidesElse, Loops, Adds}
 
 -- programs have no statements besides assignments, choices and loops
-abbrev pub NoOwn : List TokenKind → Statement → Type 0
+abbrev pub NoOwn : List Kind → Statement → Type 0
 NoOwn tokens s = ⊥
 
 -- the statements of a block
@@ -18,7 +18,7 @@ pub block_again : (block : Block) → block_of (statements_of block) ≡ block
 block_again Nothing = refl
 block_again (Then s block) = ap (Then s) (block_again block)
 
-pub written_spelled : {most : Limits} {depth : ℕ} {tokens : List TokenKind} {block : Block}
+pub written_spelled : {most : Limits} {depth : ℕ} {tokens : List Kind} {block : Block}
     → Writes most depth tokens block → Spelled programs NoOwn most depth tokens (statements_of block)
 written_spelled Ends = NoneLeft
 written_spelled (Sets name s fits w) = Assigns name s fits (written_spelled w)
@@ -37,7 +37,7 @@ written_spelled {most} {depth} {tokens} (Repeats {test = test} {body = body} {bl
     subst (λ z. Spelled programs NoOwn most depth tokens (Loop test z ∷ statements_of block))
     (block_again body) (Loops g room (written_spelled inner) (written_spelled w))
 
-pub spelled_written : {most : Limits} {depth : ℕ} {tokens : List TokenKind} {ss : List Statement}
+pub spelled_written : {most : Limits} {depth : ℕ} {tokens : List Kind} {ss : List Statement}
     → Spelled programs NoOwn most depth tokens ss → Writes most depth tokens (block_of ss)
 spelled_written NoneLeft = Ends
 spelled_written (Assigns name s fits w) = Sets name s fits (spelled_written w)

@@ -1,14 +1,14 @@
 -- For the proofs and for private clauses only: how the parser reads a program token by token.
 use Rattle.std.specs.Prelude.{ℕ, List, [], ◌∷◌, ◌++◌, Option, Some, None, option_map}
 use Rattle.gr_word.specs.declared.variables.Label.TheVariants.{Public, Secret}
-use Rattle.src_lexer.specs.declared.tokens.TokenKind.{TokenKind}
+use Rattle.src_lexer.specs.declared.tokens.Kind.{Kind}
 use Rattle.src_tree.specs.declared.trees.Decl.{Decl}
 use Rattle.src_tree.specs.Trees.{Statement, SetVariable, SetElement, Choice, Loop, block_of, Source}
 use Rattle.src_parser.specs.Grammar.{Limits}
 use Rattle.src_parser.specs.Headings.{Heading, Labelled, HeadingState, Begun, Declared, heading_advanced}
 use Rattle.src_parser.specs.Statements.{Makers, Blocks, between_statements, performed, complete_of, depth_of}
 use Rattle.src_parser.specs.Tokenwise.{Advance, Goes, mapped}
-use Rattle.src_lexer.specs.declared.tokens.TokenKind.TheVariants as kind
+use Rattle.src_lexer.specs.declared.tokens.Kind.TheVariants as kind
 
 -- the statements of programs
 abbrev pub programs : Makers Statement
@@ -26,7 +26,7 @@ pub data ParserState : Type 0 where
   Doing : (decls : List Decl) (blocks : Blocks Statement) → ParserState
 
 -- a token between declarations, or the first token of the statements
-abbrev pub between : List Decl → TokenKind → Advance ParserState
+abbrev pub between : List Decl → Kind → Advance ParserState
 between decls kind.Public = Goes (Declaring decls (Labelled Public))
 between decls kind.Secret = Goes (Declaring decls (Labelled Secret))
 between decls k = mapped (Doing decls) (between_statements programs [] [] k)
@@ -37,7 +37,7 @@ with_heading decls (Begun heading) = Declaring decls heading
 with_heading decls (Declared decl) = Between (decls ++ decl ∷ [])
 
 -- a token of a program
-abbrev pub advanced : Limits → ParserState → TokenKind → Advance ParserState
+abbrev pub advanced : Limits → ParserState → Kind → Advance ParserState
 advanced most (Between decls) k = between decls k
 advanced most (Declaring decls heading) k = mapped (with_heading decls) (heading_advanced heading k)
 advanced most (Doing decls blocks) k = mapped (Doing decls) (performed programs most 0 blocks k)

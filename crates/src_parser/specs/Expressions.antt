@@ -2,7 +2,7 @@
 -- open brackets and signs of its statement, and after `used` of the statement's operators and signs. It extends as far
 -- as the tokens begin an expression for any limits of nesting (this project's profile).
 use Rattle.std.specs.Prelude.{◌≡◌, ℕ, ◌+◌, ◌<◌, ◌≤◌, List, [], ◌∷◌, ◌++◌, length, take}
-use Rattle.src_lexer.specs.declared.tokens.TokenKind.{TokenKind}
+use Rattle.src_lexer.specs.declared.tokens.Kind.{Kind}
 use Rattle.src_lexer.specs.declared.tokens.Token.{Token}
 use Rattle.src_tree.specs.Trees.{Tree}
 use Rattle.src_parser.specs.Grammar.{Limits, limits, operators, SpellsTree}
@@ -11,13 +11,13 @@ use Rattle.src_parser.specs.declared.errors.ParseError.{ParseError}
 use Rattle.src_parser.specs.declared.errors.ParseError.TheVariants as error
 
 -- these tokens are an expression with this tree
-pub record IsExpression (most : Limits) (opened used : ℕ) (tokens : List TokenKind) (tree : Tree) : Type 0 where
+pub record IsExpression (most : Limits) (opened used : ℕ) (tokens : List Kind) (tree : Tree) : Type 0 where
   pub spells : SpellsTree most.brackets opened 0 tokens tree
   pub fits : used + operators tree ≤ most.operators
 
 -- an expression begins with these tokens
-pub record ExpressionBegins (most : Limits) (opened used : ℕ) (tokens : List TokenKind) : Type 0 where
-  pub more : List TokenKind
+pub record ExpressionBegins (most : Limits) (opened used : ℕ) (tokens : List Kind) : Type 0 where
+  pub more : List Kind
   pub tree : Tree
   pub whole : IsExpression most opened used (tokens ++ more) tree
 

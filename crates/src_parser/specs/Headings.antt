@@ -2,10 +2,10 @@
 -- token, after its label.
 use Rattle.std.specs.Prelude.{ℕ, pos, List, Option, Some, None}
 use Rattle.gr_word.specs.declared.variables.Label.{Label}
-use Rattle.src_lexer.specs.declared.tokens.TokenKind.{TokenKind}
+use Rattle.src_lexer.specs.declared.tokens.Kind.{Kind}
 use Rattle.src_tree.specs.declared.trees.Decl.{Decl}
 use Rattle.src_parser.specs.Tokenwise.{Advance, Goes, Wrong}
-use Rattle.src_lexer.specs.declared.tokens.TokenKind.TheVariants as kind
+use Rattle.src_lexer.specs.declared.tokens.Kind.TheVariants as kind
 
 -- how far a declaration was read
 pub data Heading : Type 0 where
@@ -25,7 +25,7 @@ abbrev pub declared : Label → List ℕ → Option ℕ → Decl
 declared label name size = record { name = name; label = label; length = size }
 
 -- a token of a declaration
-abbrev pub heading_advanced : Heading → TokenKind → Advance HeadingState
+abbrev pub heading_advanced : Heading → Kind → Advance HeadingState
 heading_advanced (Labelled label) kind.Int = Goes (Begun (Typed label))
 heading_advanced (Typed label) (kind.Word name) = Goes (Begun (Titled label name))
 heading_advanced (Titled label name) kind.Semi = Goes (Declared (declared label name None))

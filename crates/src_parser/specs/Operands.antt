@@ -3,10 +3,10 @@
 use Rattle.std.specs.Prelude.{ℕ, ◌+◌, nat_lt, nat_le, Bool, true, false, ◌&&◌, if◌then◌else◌, pos, List, [], ◌∷◌, Option, Some, None}
 use Rattle.gr_word.specs.declared.operations.Op.{Op}
 use Rattle.gr_word.specs.declared.operations.Op.TheVariants.{Sub}
-use Rattle.src_lexer.specs.declared.tokens.TokenKind.{TokenKind}
+use Rattle.src_lexer.specs.declared.tokens.Kind.{Kind}
 use Rattle.src_tree.specs.Trees.{Tree, Number, Variable, Element, Operation}
 use Rattle.src_parser.specs.Grammar.{Limits, operator_of, level_of}
-use Rattle.src_lexer.specs.declared.tokens.TokenKind.TheVariants as kind
+use Rattle.src_lexer.specs.declared.tokens.Kind.TheVariants as kind
 
 -- an item that waits for an operand: a bracket, an index or a sign, each with how many were open before it, or an
 -- operation with its left operand
@@ -52,7 +52,7 @@ tree_joined level (Pending left op ∷ stack) tree depth =
     else Joins (Pending left op ∷ stack) tree depth
 
 -- a token where an operand is expected
-abbrev pub wanting : Limits → List Waiting → ℕ → ℕ → TokenKind → TokenStep
+abbrev pub wanting : Limits → List Waiting → ℕ → ℕ → Kind → TokenStep
 wanting most stack depth used (kind.Num (pos n)) = Moves (At stack depth used (Given (Number (pos n))))
 wanting most stack depth used (kind.Word name) = Moves (At stack depth used (Named name))
 wanting most stack depth used kind.LParen =
@@ -68,25 +68,25 @@ pending most op used (Joins stack tree depth) =
     where_room (nat_lt used most.operators) (At (Pending tree op ∷ stack) depth (used + 1) Wanted)
 
 -- any other token after an operand
-abbrev pub closing : ℕ → TokenKind → Joint → TokenStep
+abbrev pub closing : ℕ → Kind → Joint → TokenStep
 closing used kind.RParen (Joins (Open d ∷ stack) tree depth) = Moves (At stack d used (Given tree))
 closing used kind.RBracket (Joins (Index d name ∷ stack) tree depth) =
     Moves (At stack d used (Given (Element name tree)))
 closing used _ (Joins stack tree depth) = Stops (At stack depth used (Given tree))
 
 -- a token after an operand
-abbrev pub having : Limits → List Waiting → ℕ → ℕ → Tree → TokenKind → Option Op → TokenStep
+abbrev pub having : Limits → List Waiting → ℕ → ℕ → Tree → Kind → Option Op → TokenStep
 having most stack depth used tree sign (Some op) = pending most op used (tree_joined (level_of op) stack tree depth)
 having most stack depth used tree sign None = closing used sign (tree_joined 0 stack tree depth)
 
 -- a token after a name
-abbrev pub naming : Limits → List Waiting → ℕ → ℕ → List ℕ → TokenKind → TokenStep
+abbrev pub naming : Limits → List Waiting → ℕ → ℕ → List ℕ → Kind → TokenStep
 naming most stack depth used name kind.LBracket =
     where_room (nat_lt depth most.brackets) (At (Index depth name ∷ stack) (depth + 1) used Wanted)
 naming most stack depth used name sign = having most stack depth used (Variable name) sign (operator_of sign)
 
 -- a token of an expression
-abbrev pub reads : Limits → Reading → TokenKind → TokenStep
+abbrev pub reads : Limits → Reading → Kind → TokenStep
 reads most (At stack depth used Wanted) sign = wanting most stack depth used sign
 reads most (At stack depth used (Named name)) sign = naming most stack depth used name sign
 reads most (At stack depth used (Given tree)) sign = having most stack depth used tree sign (operator_of sign)

@@ -2,12 +2,12 @@
 -- block, or a whole assignment, is read token by token.
 use Rattle.std.specs.Prelude.{ℕ, List, [], Option, Some, None}
 use Rattle.gr_word.specs.declared.operations.Cmp.{Cmp}
-use Rattle.src_lexer.specs.declared.tokens.TokenKind.{TokenKind}
+use Rattle.src_lexer.specs.declared.tokens.Kind.{Kind}
 use Rattle.src_tree.specs.Trees.{Tree, Test}
 use Rattle.src_parser.specs.Grammar.{Limits, comparison_of}
 use Rattle.src_parser.specs.Tokenwise.{Advance, Goes, Wrong, TooMuch}
 use Rattle.src_parser.specs.Operands.{Reading, At, Wanted, TokenStep, Moves, Stops, Deep, reads, whole, used_of}
-use Rattle.src_lexer.specs.declared.tokens.TokenKind.TheVariants as kind
+use Rattle.src_lexer.specs.declared.tokens.Kind.TheVariants as kind
 
 -- whether a guard belongs to a choice or to a loop
 pub data Form : Type 0 where
@@ -47,16 +47,16 @@ after_step on over (Stops x) = over x
 after_step on over Deep = TooMuch
 
 -- a token after the name in an assignment
-abbrev pub targeting : List ℕ → TokenKind → Advance PartState
+abbrev pub targeting : List ℕ → Kind → Advance PartState
 targeting name kind.Assign = Goes (Still (Inside (Value name) (At [] 0 0 Wanted)))
 targeting name kind.LBracket = Goes (Still (Inside (Place name) (At [] 1 0 Wanted)))
 targeting name _ = Wrong
 
-abbrev pub placing : List ℕ → Tree → ℕ → TokenKind → Advance PartState
+abbrev pub placing : List ℕ → Tree → ℕ → Kind → Advance PartState
 placing name index used kind.Assign = Goes (Still (Inside (Stored name index) (At [] 0 used Wanted)))
 placing name index used _ = Wrong
 
-abbrev pub guarding : Form → TokenKind → Advance PartState
+abbrev pub guarding : Form → Kind → Advance PartState
 guarding form kind.LParen = Goes (Still (Inside (Left form) (At [] 0 0 Wanted)))
 guarding form _ = Wrong
 
@@ -66,7 +66,7 @@ comparing form left used (Some cmp) = Goes (Still (Inside (Right form cmp left) 
 comparing form left used None = Wrong
 
 -- a token after the whole expression
-abbrev pub behind_expression : Asked → Tree → ℕ → TokenKind → Advance PartState
+abbrev pub behind_expression : Asked → Tree → ℕ → Kind → Advance PartState
 behind_expression (Value name) tree used kind.Semi = Goes (Done (VariableSet name tree))
 behind_expression (Place name) tree used kind.RBracket = Goes (Still (Placed name tree used))
 behind_expression (Stored name index) tree used kind.Semi = Goes (Done (ElementSet name index tree))
@@ -75,17 +75,17 @@ behind_expression (Right form cmp left) tree used kind.RParen =
     Goes (Done (GuardRead form (record { cmp = cmp; left = left; right = tree })))
 behind_expression other tree used _ = Wrong
 
-abbrev pub ending_where : Asked → Option Tree → ℕ → TokenKind → Advance PartState
+abbrev pub ending_where : Asked → Option Tree → ℕ → Kind → Advance PartState
 ending_where asked None used k = Wrong
 ending_where asked (Some tree) used k = behind_expression asked tree used k
 
 -- a token in an expression
-abbrev pub in_expression : Asked → TokenKind → TokenStep → Advance PartState
+abbrev pub in_expression : Asked → Kind → TokenStep → Advance PartState
 in_expression asked k s =
     after_step (λ x. Still (Inside asked x)) (λ x. ending_where asked (whole x) (used_of x) k) s
 
 -- a token of a part
-abbrev pub part_advanced : Limits → Part → TokenKind → Advance PartState
+abbrev pub part_advanced : Limits → Part → Kind → Advance PartState
 part_advanced most (Target name) k = targeting name k
 part_advanced most (Placed name index used) k = placing name index used k
 part_advanced most (Guarding form) k = guarding form k

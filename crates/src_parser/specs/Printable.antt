@@ -8,7 +8,7 @@ use Rattle.src_tree.specs.Trees.{Tree, Number, Variable, Element, Operation, Tes
 use Rattle.src_tree.specs.Heights.{height_of}
 use Rattle.src_tree.specs.Printed.{source_text}
 use Rattle.src_parser.specs.Grammar.{operators}
-use Rattle.src_lexer.specs.declared.tokens.TokenKind.TheVariants as kind
+use Rattle.src_lexer.specs.declared.tokens.Kind.TheVariants as kind
 
 -- a name that isn't a keyword
 pub record IsFree (name : List ℕ) : Type 0 where

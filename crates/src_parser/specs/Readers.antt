@@ -1,7 +1,7 @@
 -- For the proofs and for private clauses only: tokens that are read from any state, and the first that isn't; and what
 -- is left of a text.
 use Rattle.std.specs.Prelude.{◌≡◌, ◌⊎◌, ℕ, List, ◌∷◌, ◌++◌, Ok, Err}
-use Rattle.src_lexer.specs.declared.tokens.TokenKind.{TokenKind}
+use Rattle.src_lexer.specs.declared.tokens.Kind.{Kind}
 use Rattle.src_lexer.specs.declared.tokens.Token.{Token}
 use Rattle.src_lexer.specs.Splits.{Splits}
 use Rattle.src_lexer.specs.Unread.{Unread}
@@ -15,11 +15,11 @@ use Rattle.src_parser.specs.declared.errors.ParseError.TheVariants as error
 use Rattle.src_parser.specs.declared.errors.TextError.TheVariants as text
 
 -- these tokens lead from a state to another one
-abbrev pub ReadsTo : {S : Type 0} → (Limits → S → TokenKind → Advance S) → S → List Token → S → Type 0
+abbrev pub ReadsTo : {S : Type 0} → (Limits → S → Kind → Advance S) → S → List Token → S → Type 0
 ReadsTo advanced state tokens last = advances advanced limits state (token_kinds tokens) ≡ Goes last
 
 -- the tokens before this one are read, and it isn't
-pub record StopsAt {S : Type 0} (advanced : Limits → S → TokenKind → Advance S) (state : S) (tokens : List Token)
+pub record StopsAt {S : Type 0} (advanced : Limits → S → Kind → Advance S) (state : S) (tokens : List Token)
     (at : ℕ) (how : Advance S) : Type 0 where
   pub front : List Token
   pub token : Token
@@ -31,7 +31,7 @@ pub record StopsAt {S : Type 0} (advanced : Limits → S → TokenKind → Advan
   pub stops : advanced limits last token.kind ≡ how
 
 -- why these tokens aren't all read from a state
-abbrev pub Stops : {S : Type 0} → (Limits → S → TokenKind → Advance S) → S → List Token → ParseError → Type 0
+abbrev pub Stops : {S : Type 0} → (Limits → S → Kind → Advance S) → S → List Token → ParseError → Type 0
 Stops advanced state tokens (error.Unexpected at) = StopsAt advanced state tokens at Wrong
 Stops advanced state tokens (error.TooDeep at) = StopsAt advanced state tokens at TooMuch
 Stops advanced state tokens error.EndOfText = ⊥

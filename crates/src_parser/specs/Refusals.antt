@@ -1,17 +1,17 @@
 -- Why tokens aren't a program: the three errors of the parser, each at its first place (this project's profile).
 use Rattle.std.specs.Prelude.{◌≡◌, ℕ, ◌+◌, ◌-◌, ◌<◌, List, [], ◌∷◌, ◌++◌, map}
-use Rattle.src_lexer.specs.declared.tokens.TokenKind.{TokenKind}
+use Rattle.src_lexer.specs.declared.tokens.Kind.{Kind}
 use Rattle.src_lexer.specs.declared.tokens.Token.{Token}
 use Rattle.src_tree.specs.Trees.{Source}
 use Rattle.src_parser.specs.Grammar.{Limits, limits, Sentence}
-use Rattle.src_lexer.specs.declared.tokens.TokenKind.TheVariants as kind
+use Rattle.src_lexer.specs.declared.tokens.Kind.TheVariants as kind
 
 -- the kinds of tokens, without their places
-abbrev pub token_kinds : List Token → List TokenKind
+abbrev pub token_kinds : List Token → List Kind
 token_kinds tokens = map (λ token. token.kind) tokens
 
 -- each `{` of these tokens is inside fewer than `most` open ones, of which `depth` are before these tokens
-abbrev pub Shallow : (most depth : ℕ) → List TokenKind → Type 0
+abbrev pub Shallow : (most depth : ℕ) → List Kind → Type 0
 Shallow most depth [] = Unit {0}
 Shallow most depth (kind.LBrace ∷ tokens) = (depth < most) × Shallow most (depth + 1) tokens
 Shallow most depth (kind.RBrace ∷ tokens) = Shallow most (depth - 1) tokens
@@ -19,10 +19,10 @@ Shallow most depth (token ∷ tokens) = Shallow most depth tokens
 
 -- these tokens begin a program and exceed no limit: with some more tokens they are a program, however deep the nesting
 -- of the braces that they open
-pub record ProgramBegins (most : Limits) (tokens : List TokenKind) : Type 0 where
+pub record ProgramBegins (most : Limits) (tokens : List Kind) : Type 0 where
   pub shallow : Shallow most.braces 0 tokens
   pub braces : ℕ
-  pub more : List TokenKind
+  pub more : List Kind
   pub program : Source
   pub sentence : Sentence (record { brackets = most.brackets; braces = braces; operators = most.operators })
       (tokens ++ more) program

@@ -1,11 +1,11 @@
 -- For the proofs and for private clauses, and for parsers of larger languages: how statements are read token by token.
 use Rattle.std.specs.Prelude.{ℕ, ◌+◌, nat_lt, Bool, true, false, List, [], ◌∷◌, ◌++◌, length, Option, Some, None}
-use Rattle.src_lexer.specs.declared.tokens.TokenKind.{TokenKind}
+use Rattle.src_lexer.specs.declared.tokens.Kind.{Kind}
 use Rattle.src_tree.specs.Trees.{Tree, Test}
 use Rattle.src_parser.specs.Grammar.{Limits}
 use Rattle.src_parser.specs.Parts.{Form, ForChoice, ForLoop, Part, Target, Guarding, VariableSet, ElementSet, GuardRead, PartState, Still, Done, part_advanced}
 use Rattle.src_parser.specs.Tokenwise.{Advance, Goes, Wrong, mapped, with_braces}
-use Rattle.src_lexer.specs.declared.tokens.TokenKind.TheVariants as kind
+use Rattle.src_lexer.specs.declared.tokens.Kind.TheVariants as kind
 
 -- how a language makes its statements
 pub record Makers (S : Type 0) : Type 0 where
@@ -41,7 +41,7 @@ leaving make (InSecond test first before ∷ outer) here =
 leaving make (InLoop test before ∷ outer) here = Goes (Among outer (before ++ make.repetition test here ∷ []) Ready)
 
 -- a token between statements
-abbrev pub between_statements : {S : Type 0} → Makers S → List (Outer S) → List S → TokenKind → Advance (Blocks S)
+abbrev pub between_statements : {S : Type 0} → Makers S → List (Outer S) → List S → Kind → Advance (Blocks S)
 between_statements make outer here (kind.Word name) = Goes (Among outer here (InPart (Target name)))
 between_statements make outer here kind.If = Goes (Among outer here (InPart (Guarding ForChoice)))
 between_statements make outer here kind.While = Goes (Among outer here (InPart (Guarding ForLoop)))
@@ -53,7 +53,7 @@ abbrev pub chosen : {S : Type 0} → Makers S → List S → Test → List S →
 chosen make here test first = here ++ make.choice test first [] ∷ []
 
 -- a token after the first block of a choice
-abbrev pub elsing : {S : Type 0} → Makers S → List (Outer S) → List S → Test → List S → TokenKind
+abbrev pub elsing : {S : Type 0} → Makers S → List (Outer S) → List S → Test → List S → Kind
     → Advance (Blocks S)
 elsing make outer here test first kind.Else = Goes (Among outer here (Otherwise test first))
 elsing make outer here test first k = between_statements make outer (chosen make here test first) k
@@ -76,20 +76,20 @@ abbrev pub block_opened : {S : Type 0} → Form → Test → List S → Outer S
 block_opened ForChoice test here = InFirst test here
 block_opened ForLoop test here = InLoop test here
 
-abbrev pub entering : {S : Type 0} → Limits → (outside : ℕ) → List (Outer S) → List S → Form → Test → TokenKind
+abbrev pub entering : {S : Type 0} → Limits → (outside : ℕ) → List (Outer S) → List S → Form → Test → Kind
     → Advance (Blocks S)
 entering most outside outer here form test kind.LBrace =
     with_braces (nat_lt (depth_in outside outer) most.braces) (Among (block_opened form test here ∷ outer) [] Ready)
 entering most outside outer here form test _ = Wrong
 
-abbrev pub otherwise : {S : Type 0} → Limits → (outside : ℕ) → List (Outer S) → List S → Test → List S → TokenKind
+abbrev pub otherwise : {S : Type 0} → Limits → (outside : ℕ) → List (Outer S) → List S → Test → List S → Kind
     → Advance (Blocks S)
 otherwise most outside outer here test first kind.LBrace =
     with_braces (nat_lt (depth_in outside outer) most.braces) (Among (InSecond test first here ∷ outer) [] Ready)
 otherwise most outside outer here test first _ = Wrong
 
 -- a token of a statement
-abbrev pub does : {S : Type 0} → Makers S → Limits → (outside : ℕ) → List (Outer S) → List S → Phase S → TokenKind
+abbrev pub does : {S : Type 0} → Makers S → Limits → (outside : ℕ) → List (Outer S) → List S → Phase S → Kind
     → Advance (Blocks S)
 does make most outside outer here Ready k = between_statements make outer here k
 does make most outside outer here (MayElse test first) k = elsing make outer here test first k
@@ -97,7 +97,7 @@ does make most outside outer here (InPart part) k = mapped (with_part make outer
 does make most outside outer here (Guarded form test) k = entering most outside outer here form test k
 does make most outside outer here (Otherwise test first) k = otherwise most outside outer here test first k
 
-abbrev pub performed : {S : Type 0} → Makers S → Limits → (outside : ℕ) → Blocks S → TokenKind → Advance (Blocks S)
+abbrev pub performed : {S : Type 0} → Makers S → Limits → (outside : ℕ) → Blocks S → Kind → Advance (Blocks S)
 performed make most outside (Among outer here phase) k = does make most outside outer here phase k
 
 -- whether the statements that were read are complete

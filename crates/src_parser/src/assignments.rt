@@ -1,23 +1,26 @@
 //! Assignments that are read in one go. Most statements are assignments, and the state between two tokens of one is
 //! large. An assignment with an error is left to the reading token by token, which finds the first error.
 
-ghost use Rattle.std.specs.Prelude.{◌≡◌, ◌≤◌, ◌∷◌, take, length, IfOk, IfSome, true};
-ghost use Rattle.src_lexer.specs.declared.tokens.TokenKind.TheVariants.{Word, Assign, LBracket, RBracket, Semi};
-ghost use Rattle.src_tree.specs.Prelude.{expr_tree, statement_of};
-ghost use Rattle.src_parser.specs.Assignments.{Adds, EndedBy, Leads};
+ghost use Rattle.std.specs.Prelude.{◌≡◌, List, ◌≤◌, ◌<◌, ◌+◌, ◌++◌, ◌∷◌, [], take, length, IfOk, IfSome, true};
+ghost use Rattle.src_lexer.specs.declared.tokens.Kind.TheVariants.{Word, Assign, LBracket, RBracket, Semi};
+ghost use Rattle.src_tree.specs.Prelude.{expr_tree, statement_of, SetElement};
+ghost use Rattle.src_parser.specs.Assignments.{Adds, Assigned, EndedBy, Leads};
 ghost use Rattle.src_parser.specs.Expressions.{FoundExpression};
 ghost use Rattle.src_parser.specs.Refusals.{token_kinds};
-ghost use Rattle.src_parser.specs.Seen.{phase_of, state_of};
+ghost use Rattle.src_parser.specs.Seen.{among, phase_of, state_of};
+ghost use Rattle.src_parser.specs.Advances.{Doing};
+ghost use Rattle.src_tree.specs.declared.trees.Decl.{Decl};
 ghost use Rattle.src_parser.specs.Statements.{Ready};
 
 use crate::errors::ParseError;
 use crate::languages::{Language, Programs};
 use crate::lone_expressions::expression;
+use crate::putting::push;
 use crate::readings::MAX_OPERATORS;
-use crate::states::{ParserState, Pause, Phase};
+use crate::states::{Blocks, ParserState, Pause, Phase};
 use gr_base::Memory;
 use gr_word::Name;
-use src_lexer::{Token, TokenKind};
+use src_lexer::{Kind, Token};
 use src_tree::{Expr, Stmt};
 use std::alloc::Global;
 
@@ -38,39 +41,93 @@ fn found(
     }
 }
 
-// The index that a `]` ends, and the number of tokens with the `]`.
+// Whether the token of this number is a `]`.
+#[tactic(auto, using(crate::proofs::AssignmentTokens::kinds_with))]
+fn is_bracket(tokens: &[Token], at: usize) -> bool
+    ensures within { result ≡ true → at < length tokens.now }
+    ensures is { result ≡ true
+        → token_kinds (take (at + 1) tokens.now) ≡ token_kinds (take at tokens.now) ++ RBracket ∷ [] }
+{
+    if at >= tokens.len() {
+        return false;
+    }
+    matches!(tokens[at].kind, Kind::RBracket)
+}
+
+// Whether the token of this number is a `;`.
+#[tactic(auto, using(crate::proofs::AssignmentTokens::kinds_with))]
+fn is_semicolon(tokens: &[Token], at: usize) -> bool
+    ensures within { result ≡ true → at < length tokens.now }
+    ensures is { result ≡ true
+        → token_kinds (take (at + 1) tokens.now) ≡ token_kinds (take at tokens.now) ++ Semi ∷ [] }
+{
+    if at >= tokens.len() {
+        return false;
+    }
+    matches!(tokens[at].kind, Kind::Semi)
+}
+
+// The index that a `]` ends, and the number of tokens with the `]`. An index has no more operators than tokens, and one
+// of more tokens than a statement may have operators is left to the reading token by token.
+#[tactic(auto, using(crate::proofs::AssignmentTokens::ended_by))]
 fn index(alloc: Global, tokens: &[Token]) -> Result<Option<(Expr, usize)>, Memory>
     ensures within { IfOk result (λ o. IfSome o (λ r. r.1 ≤ length tokens.now)) }
+    ensures few { IfOk result (λ o. IfSome o (λ r. r.1 ≤ 256)) }
     ensures is { IfOk result (λ o. IfSome o (λ r.
         EndedBy RBracket 1 0 (token_kinds (take r.1 tokens.now)) (expr_tree r.0))) }
 {
-    let Some((tree, count)) = found(alloc, tokens, 1, 0)? else {
+    let Some((index, count)) = found(alloc, tokens, 1, 0)? else {
         return Ok(None);
     };
-    if count >= tokens.len() {
+    if count >= MAX_OPERATORS as usize {
         return Ok(None);
     }
-    match &tokens[count].kind {
-        TokenKind::RBracket => Ok(Some((tree, count + 1))),
-        _ => Ok(None),
+    if !is_bracket(tokens, count) {
+        return Ok(None);
     }
+    Ok(Some((index, count + 1)))
 }
 
 // The value that a `;` ends, and the number of tokens with the `;`. `used` of the statement's operators were used.
+#[tactic(auto, using(crate::proofs::AssignmentTokens::ended_by))]
 fn value(alloc: Global, tokens: &[Token], used: u32) -> Result<Option<(Expr, usize)>, Memory>
     requires { used ≤ 256 }
     ensures within { IfOk result (λ o. IfSome o (λ r. r.1 ≤ length tokens.now)) }
     ensures is { IfOk result (λ o. IfSome o (λ r.
         EndedBy Semi 0 used (token_kinds (take r.1 tokens.now)) (expr_tree r.0))) }
 {
-    let Some((tree, count)) = found(alloc, tokens, 0, used)? else {
+    let Some((value, count)) = found(alloc, tokens, 0, used)? else {
         return Ok(None);
     };
-    if count >= tokens.len() {
+    if !is_semicolon(tokens, count) {
         return Ok(None);
     }
-    match &tokens[count].kind {
-        TokenKind::Semi => Ok(Some((tree, count + 1))),
+    Ok(Some((value, count + 1)))
+}
+
+fn assigns(kind: &Kind) -> bool
+    ensures { result ≡ true → kind.now ≡ Assign }
+{
+    matches!(kind, Kind::Assign)
+}
+
+// The value between a `=` and a `;`, and the number of tokens with both.
+fn assigned(alloc: Global, tokens: &[Token], used: u32) -> Result<Option<(Expr, usize)>, Memory>
+    requires { used ≤ 256 }
+    ensures within { IfOk result (λ o. IfSome o (λ r. r.1 ≤ length tokens.now)) }
+    ensures is { IfOk result (λ o. IfSome o (λ r.
+        Assigned used (token_kinds (take r.1 tokens.now)) (expr_tree r.0))) }
+{
+    match tokens {
+        [sign, rest @ ..] => {
+            if !assigns(&sign.kind) {
+                return Ok(None);
+            }
+            match value(alloc, rest, used)? {
+                Some((value, inside)) => Ok(Some((value, inside + 1))),
+                None => Ok(None),
+            }
+        }
         _ => Ok(None),
     }
 }
@@ -88,41 +145,46 @@ fn variable(alloc: Global, name: &Name, tokens: &[Token]) -> Result<Option<(Stmt
     }
 }
 
-// An assignment to an element, after the `[`. An index has no more operators than tokens.
+// The assignment of a value to an element, with a copy of its name.
+fn element_set(alloc: Global, name: &Name, index: Expr, value: Expr) -> Result<Stmt, Memory>
+    ensures { IfOk result (λ s. statement_of s ≡ SetElement name.now (expr_tree index) (expr_tree value)) }
+{
+    Ok(Programs::element_set(name.copy(alloc)?, index, value))
+}
+
+// An assignment to an element, after the `[`.
 fn element(alloc: Global, name: &Name, tokens: &[Token]) -> Result<Option<(Stmt, usize)>, Memory>
     ensures within { IfOk result (λ o. IfSome o (λ r. r.1 ≤ length tokens.now)) }
     ensures adds { IfOk result (λ o. IfSome o (λ r.
         Adds (Word name.now ∷ LBracket ∷ token_kinds (take r.1 tokens.now)) (statement_of r.0))) }
 {
-    let name = name.copy(alloc)?;
     let Some((index, inside)) = index(alloc, tokens)? else {
         return Ok(None);
     };
-    if inside > MAX_OPERATORS as usize {
-        return Ok(None);
-    }
     let (_, after) = tokens.split_at(inside);
-    match after {
-        [sign, rest @ ..] => {
-            if !assigns(&sign.kind) {
-                return Ok(None);
-            }
-            match value(alloc, rest, inside as u32)? {
-                Some((value, count)) => {
-                    let count = inside + (count + 1);
-                    Ok(Some((Programs::element_set(name, index, value), count)))
-                }
-                None => Ok(None),
-            }
-        }
-        _ => Ok(None),
-    }
+    let Some((value, count)) = assigned(alloc, after, inside as u32)? else {
+        return Ok(None);
+    };
+    let statement = element_set(alloc, name, index, value)?;
+    Ok(Some((statement, inside + count)))
 }
 
-fn assigns(kind: &TokenKind) -> bool
-    ensures { result ≡ true → kind.now ≡ Assign }
+// An assignment, after its name and the sign that follows the name.
+fn target(
+    alloc: Global,
+    name: &Name,
+    sign: &Kind,
+    tokens: &[Token],
+) -> Result<Option<(Stmt, usize)>, Memory>
+    ensures within { IfOk result (λ o. IfSome o (λ r. r.1 ≤ length tokens.now)) }
+    ensures adds { IfOk result (λ o. IfSome o (λ r.
+        Adds (Word name.now ∷ sign.now ∷ token_kinds (take r.1 tokens.now)) (statement_of r.0))) }
 {
-    matches!(kind, TokenKind::Assign)
+    match sign {
+        Kind::Assign => variable(alloc, name, tokens),
+        Kind::LBracket => element(alloc, name, tokens),
+        _ => Ok(None),
+    }
 }
 
 // The assignment at the beginning of the tokens and its number of tokens, or `None` if the tokens begin with none, or
@@ -132,20 +194,13 @@ fn assignment(alloc: Global, tokens: &[Token]) -> Result<Option<(Stmt, usize)>, 
     ensures adds { IfOk result (λ o. IfSome o (λ r. Adds (token_kinds (take r.1 tokens.now)) (statement_of r.0))) }
 {
     match tokens {
-        [target, sign, rest @ ..] => {
-            let TokenKind::Word(name) = &target.kind else {
+        [word, sign, rest @ ..] => {
+            let Kind::Word(name) = &word.kind else {
                 return Ok(None);
             };
-            match &sign.kind {
-                TokenKind::Assign => match variable(alloc, name, rest)? {
-                    Some((statement, count)) => Ok(Some((statement, count + 2))),
-                    None => Ok(None),
-                },
-                TokenKind::LBracket => match element(alloc, name, rest)? {
-                    Some((statement, count)) => Ok(Some((statement, count + 2))),
-                    None => Ok(None),
-                },
-                _ => Ok(None),
+            match target(alloc, name, &sign.kind, rest)? {
+                Some((statement, count)) => Ok(Some((statement, count + 2))),
+                None => Ok(None),
             }
         }
         _ => Ok(None),
@@ -167,6 +222,26 @@ fn is_ready(phase: &Phase<Stmt>) -> bool
     }
 }
 
+// Adds the assignment at the beginning of the tokens to the statements, between two of which the tokens are.
+fn add_assignment(
+    alloc: Global,
+    blocks: &mut Blocks<Stmt>,
+    tokens: &[Token],
+) -> Result<usize, Memory>
+    ensures within { IfOk result (λ n. n ≤ length tokens.now) }
+    ensures leads { IfOk result (λ n. (decls : List Decl)
+        → Leads (Doing decls (among statement_of blocks.old Ready)) (token_kinds (take n tokens.now))
+        (Doing decls (among statement_of blocks.new Ready))) }
+{
+    match assignment(alloc, tokens)? {
+        Some((statement, count)) => {
+            push(&mut blocks.here, statement)?;
+            Ok(count)
+        }
+        None => Ok(0),
+    }
+}
+
 // Reads the assignment at the beginning of the tokens, if a statement may begin. Returns how many tokens were read: 0 if
 // the tokens begin with no assignment, or if it has an error.
 pub(crate) fn read_assignment(
@@ -182,13 +257,7 @@ pub(crate) fn read_assignment(
             if !is_ready(phase) {
                 return Ok(0);
             }
-            match assignment(alloc, tokens)? {
-                Some((statement, count)) => {
-                    blocks.here.push(statement)?;
-                    Ok(count)
-                }
-                None => Ok(0),
-            }
+            add_assignment(alloc, blocks, tokens)
         }
         ParserState::Between(_decls) => Ok(0),
         ParserState::Declaring(_decls, _heading) => Ok(0),

@@ -1,37 +1,37 @@
 ghost use Rattle.std.specs.Prelude.{◌≡◌, ◌<◌, ◌+◌, ◌-◌, ◌^◌, ◌∷◌, [], IfOk, pos, option_map};
 ghost use Rattle.src_tree.specs.Prelude.{expr_tree, Operation, Number, Element};
 ghost use Rattle.gr_word.specs.declared.operations.Op.TheVariants.{Sub};
-ghost use Rattle.src_lexer.specs.declared.tokens.TokenKind.TheVariants.{Num, LParen, LBracket, Minus};
+ghost use Rattle.src_lexer.specs.declared.tokens.Kind.TheVariants.{Num, LParen, LBracket, Minus};
 ghost use Rattle.src_parser.specs.Grammar.{limits, level_of, operator_of};
-ghost use Rattle.src_parser.specs.Operands.{tree_joined, wanting, pending, closing, having, naming, reads, whole, Moves, Stops, At, Joins, Wanted, Given};
+ghost use Rattle.src_parser.specs.Operands.{tree_joined, wanting, pending, closing, having, naming, reads, whole, Moves, Stops, At, Joins, Wanted, Given, Open, Index};
 ghost use Rattle.src_parser.specs.Seen.{joint_of, stack_of, step_of, reading_of, frame_of};
 
-use crate::putting::put;
+use crate::putting::{push, put};
 use crate::readings::{
     Joint, MAX_BRACKETS, MAX_OPERATORS, OperandState, Reading, TokenStep, Waiting,
 };
 use gr_base::Memory;
 use gr_word::{Name, Op};
-use src_lexer::TokenKind;
+use src_lexer::Kind;
 use src_tree::Expr;
 use std::alloc::Global;
 use std::mem;
 
 // The operation of a sign between two operands.
-pub(crate) fn operator(kind: &TokenKind) -> Option<Op>
+pub(crate) fn operator(kind: &Kind) -> Option<Op>
     ensures { result ≡ operator_of kind.now }
 {
     match kind {
-        TokenKind::Plus => Some(Op::Add),
-        TokenKind::Minus => Some(Op::Sub),
-        TokenKind::Star => Some(Op::Mul),
-        TokenKind::Slash => Some(Op::Div),
-        TokenKind::Percent => Some(Op::Rem),
-        TokenKind::Amp => Some(Op::And),
-        TokenKind::Bar => Some(Op::Or),
-        TokenKind::Caret => Some(Op::Xor),
-        TokenKind::Shl => Some(Op::Shl),
-        TokenKind::Shr => Some(Op::Shr),
+        Kind::Plus => Some(Op::Add),
+        Kind::Minus => Some(Op::Sub),
+        Kind::Star => Some(Op::Mul),
+        Kind::Slash => Some(Op::Div),
+        Kind::Percent => Some(Op::Rem),
+        Kind::Amp => Some(Op::And),
+        Kind::Bar => Some(Op::Or),
+        Kind::Caret => Some(Op::Xor),
+        Kind::Shl => Some(Op::Shl),
+        Kind::Shr => Some(Op::Shr),
         _ => None,
     }
 }
@@ -68,7 +68,7 @@ fn negated(alloc: Global, tree: Expr) -> Result<Expr, Memory>
 fn put_back(mut stack: Vec<Waiting>, last: Waiting, tree: Expr, depth: u32) -> Result<Joint, Memory>
     ensures { IfOk result (λ j. joint_of j ≡ Joins (frame_of last ∷ stack_of stack.items) (expr_tree tree) depth) }
 {
-    stack.push(last)?;
+    push(&mut stack, last)?;
     Ok(Joint { stack, tree, depth })
 }
 
@@ -112,7 +112,7 @@ fn opened(reading: &mut Reading, frame: Waiting, used: u32) -> Result<TokenStep,
     ensures { IfOk result (λ s. step_of s (reading_of reading.new)
         ≡ Moves (At (frame_of frame ∷ stack_of reading.old.stack.items) (reading.old.depth + 1) used Wanted)) }
 {
-    reading.stack.push(frame)?;
+    push(&mut reading.stack, frame)?;
     reading.depth += 1;
     reading.used = used;
     put(&mut reading.operand, OperandState::Wanted);
@@ -157,19 +157,19 @@ fn number(reading: &mut Reading, value: i64) -> TokenStep
 }
 
 // Reads a token where an operand is expected.
-fn want(alloc: Global, reading: &mut Reading, kind: &TokenKind) -> Result<TokenStep, Memory>
+fn want(alloc: Global, reading: &mut Reading, kind: &Kind) -> Result<TokenStep, Memory>
     ensures { IfOk result (λ s. step_of s (reading_of reading.new)
         ≡ wanting limits (stack_of reading.old.stack.items) reading.old.depth reading.old.used kind.now) }
 {
     match kind {
-        TokenKind::Num(value) => Ok(number(reading, *value)),
-        TokenKind::Word(name) => {
+        Kind::Num(value) => Ok(number(reading, *value)),
+        Kind::Word(name) => {
             let name = name.copy(alloc)?;
             put(&mut reading.operand, OperandState::Named(name));
             Ok(TokenStep::Moves)
         }
-        TokenKind::LParen => bracket(reading),
-        TokenKind::Minus => sign(reading),
+        Kind::LParen => bracket(reading),
+        Kind::Minus => sign(reading),
         _ => {
             put(&mut reading.operand, OperandState::Wanted);
             Ok(TokenStep::Stops)
@@ -191,7 +191,7 @@ fn pend(reading: &mut Reading, op: Op, joint: Joint) -> Result<TokenStep, Memory
         tree,
         depth,
     } = joint;
-    stack.push(Waiting::Pending(tree, op))?;
+    push(&mut stack, Waiting::Pending(tree, op))?;
     reading.stack = stack;
     reading.depth = depth;
     reading.used += 1;
@@ -219,7 +219,7 @@ fn stay(
     ensures { IfOk result (λ s. step_of s (reading_of reading.new)
         ≡ Stops (At (frame_of last ∷ stack_of stack.items) depth reading.old.used (Given (expr_tree tree)))) }
 {
-    stack.push(last)?;
+    push(&mut stack, last)?;
     give(reading, stack, depth, tree);
     Ok(TokenStep::Stops)
 }
@@ -230,11 +230,55 @@ fn element(alloc: Global, name: Name, index: Expr) -> Result<Expr, Memory>
     Ok(Expr::Item(name, Box::new(alloc, index)?))
 }
 
-// Reads a token after an operand that isn't an operator.
+// Reads a token that isn't an operator after an operand in a bracket.
+fn close_bracket(
+    reading: &mut Reading,
+    kind: &Kind,
+    stack: Vec<Waiting>,
+    before: u32,
+    depth: u32,
+    tree: Expr,
+) -> Result<TokenStep, Memory>
+    ensures { IfOk result (λ s. step_of s (reading_of reading.new)
+        ≡ closing reading.old.used kind.now (Joins (Open before ∷ stack_of stack.items) (expr_tree tree) depth)) }
+{
+    match kind {
+        Kind::RParen => {
+            give(reading, stack, before, tree);
+            Ok(TokenStep::Moves)
+        }
+        _ => stay(reading, stack, Waiting::Open(before), depth, tree),
+    }
+}
+
+// Reads a token that isn't an operator after an operand in the index of an element.
+fn close_index(
+    alloc: Global,
+    reading: &mut Reading,
+    kind: &Kind,
+    stack: Vec<Waiting>,
+    before: u32,
+    name: Name,
+    depth: u32,
+    tree: Expr,
+) -> Result<TokenStep, Memory>
+    ensures { IfOk result (λ s. step_of s (reading_of reading.new)
+        ≡ closing reading.old.used kind.now (Joins (Index before name ∷ stack_of stack.items) (expr_tree tree) depth)) }
+{
+    match kind {
+        Kind::RBracket => {
+            give(reading, stack, before, element(alloc, name, tree)?);
+            Ok(TokenStep::Moves)
+        }
+        _ => stay(reading, stack, Waiting::Index(before, name), depth, tree),
+    }
+}
+
+// Reads a token that isn't an operator after an operand.
 fn close(
     alloc: Global,
     reading: &mut Reading,
-    kind: &TokenKind,
+    kind: &Kind,
     joint: Joint,
 ) -> Result<TokenStep, Memory>
     ensures { IfOk result (λ s. step_of s (reading_of reading.new)
@@ -250,20 +294,10 @@ fn close(
             give(reading, stack, depth, tree);
             Ok(TokenStep::Stops)
         }
-        Some(Waiting::Open(before)) => match kind {
-            TokenKind::RParen => {
-                give(reading, stack, before, tree);
-                Ok(TokenStep::Moves)
-            }
-            _ => stay(reading, stack, Waiting::Open(before), depth, tree),
-        },
-        Some(Waiting::Index(before, name)) => match kind {
-            TokenKind::RBracket => {
-                give(reading, stack, before, element(alloc, name, tree)?);
-                Ok(TokenStep::Moves)
-            }
-            _ => stay(reading, stack, Waiting::Index(before, name), depth, tree),
-        },
+        Some(Waiting::Open(before)) => close_bracket(reading, kind, stack, before, depth, tree),
+        Some(Waiting::Index(before, name)) => {
+            close_index(alloc, reading, kind, stack, before, name, depth, tree)
+        }
         Some(Waiting::Sign(before)) => stay(reading, stack, Waiting::Sign(before), depth, tree),
         Some(Waiting::Pending(left, op)) => {
             stay(reading, stack, Waiting::Pending(left, op), depth, tree)
@@ -271,33 +305,47 @@ fn close(
     }
 }
 
-// Reads a token after an operand.
+// Reads an operator after an operand, with everything that binds at least as tightly as the operator joined before it.
+fn operate(alloc: Global, reading: &mut Reading, tree: Expr, op: Op) -> Result<TokenStep, Memory>
+    ensures { IfOk result (λ s. step_of s (reading_of reading.new)
+        ≡ pending limits op reading.old.used
+        (tree_joined (level_of op) (stack_of reading.old.stack.items) (expr_tree tree) reading.old.depth)) }
+{
+    let stack = mem::replace(&mut reading.stack, Vec::new(alloc));
+    let joint = join(alloc, level(op), stack, tree, reading.depth)?;
+    pend(reading, op, joint)
+}
+
+// Reads a token after an operand that isn't an operator, with everything that waits for the operand joined before it.
 #[tactic(auto, using(crate::proofs::PartRead::stops_whole))]
-fn have(
+fn conclude(
     alloc: Global,
     reading: &mut Reading,
     tree: Expr,
-    kind: &TokenKind,
+    kind: &Kind,
 ) -> Result<TokenStep, Memory>
+    ensures { IfOk result (λ s. step_of s (reading_of reading.new)
+        ≡ closing reading.old.used kind.now
+        (tree_joined 0 (stack_of reading.old.stack.items) (expr_tree tree) reading.old.depth)) }
+{
+    if reading.stack.is_empty() {
+        put(&mut reading.operand, OperandState::Given(tree));
+        return Ok(TokenStep::Stops);
+    }
+    let stack = mem::replace(&mut reading.stack, Vec::new(alloc));
+    let joint = join(alloc, 0, stack, tree, reading.depth)?;
+    close(alloc, reading, kind, joint)
+}
+
+// Reads a token after an operand.
+fn have(alloc: Global, reading: &mut Reading, tree: Expr, kind: &Kind) -> Result<TokenStep, Memory>
     ensures { IfOk result (λ s. step_of s (reading_of reading.new)
         ≡ having limits (stack_of reading.old.stack.items) reading.old.depth reading.old.used (expr_tree tree) kind.now
         (operator_of kind.now)) }
 {
     match operator(kind) {
-        Some(op) => {
-            let stack = mem::replace(&mut reading.stack, Vec::new(alloc));
-            let joint = join(alloc, level(op), stack, tree, reading.depth)?;
-            pend(reading, op, joint)
-        }
-        None => {
-            if reading.stack.is_empty() {
-                put(&mut reading.operand, OperandState::Given(tree));
-                return Ok(TokenStep::Stops);
-            }
-            let stack = mem::replace(&mut reading.stack, Vec::new(alloc));
-            let joint = join(alloc, 0, stack, tree, reading.depth)?;
-            close(alloc, reading, kind, joint)
-        }
+        Some(op) => operate(alloc, reading, tree, op),
+        None => conclude(alloc, reading, tree, kind),
     }
 }
 
@@ -317,13 +365,13 @@ fn behind_name(
     alloc: Global,
     reading: &mut Reading,
     name: Name,
-    kind: &TokenKind,
+    kind: &Kind,
 ) -> Result<TokenStep, Memory>
     ensures { IfOk result (λ s. step_of s (reading_of reading.new)
         ≡ naming limits (stack_of reading.old.stack.items) reading.old.depth reading.old.used name kind.now) }
 {
     match kind {
-        TokenKind::LBracket => index(reading, name),
+        Kind::LBracket => index(reading, name),
         _ => have(alloc, reading, Expr::Var(name), kind),
     }
 }
@@ -344,7 +392,7 @@ pub fn fresh(alloc: Global, depth: u32, used: u32) -> Reading
 /// Reads the next token of an expression. The token is read, or the expression ends before it, or it exceeds a limit of
 /// nesting. After a limit was exceeded the reading is of no use; nor is it after `Memory`, which says nothing about the
 /// tokens.
-pub fn read(alloc: Global, reading: &mut Reading, kind: &TokenKind) -> Result<TokenStep, Memory>
+pub fn read(alloc: Global, reading: &mut Reading, kind: &Kind) -> Result<TokenStep, Memory>
     ensures { IfOk result (λ s. step_of s (reading_of reading.new) ≡ reads limits (reading_of reading.old) kind.now) }
 {
     match mem::replace(&mut reading.operand, OperandState::Wanted) {

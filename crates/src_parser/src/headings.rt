@@ -1,12 +1,12 @@
 ghost use Rattle.std.specs.Prelude.{◌≡◌, IfOk};
-ghost use Rattle.src_lexer.specs.declared.tokens.TokenKind.TheVariants.{Num};
-ghost use Rattle.src_parser.specs.Headings.{declared, heading_advanced, Declared, Sizing, Typed};
+ghost use Rattle.src_lexer.specs.declared.tokens.Kind.TheVariants.{Num};
+ghost use Rattle.src_parser.specs.Headings.{declared, heading_advanced, Closing, Declared, Sized, Sizing, Titled, Typed};
 ghost use Rattle.src_parser.specs.Seen.{heading_of, heading_advance_of};
 ghost use Rattle.src_parser.specs.Tokenwise.{Goes};
 
 use gr_base::Memory;
 use gr_word::{Label, Name};
-use src_lexer::TokenKind;
+use src_lexer::Kind;
 use src_tree::Decl;
 use std::alloc::Global;
 
@@ -50,11 +50,11 @@ fn size(label: Label, name: Name, value: i64) -> HeadingAdvance
     HeadingAdvance::Goes(Heading::Sized(label, name, value as u64))
 }
 
-fn typed(alloc: Global, label: Label, kind: &TokenKind) -> Result<HeadingAdvance, Memory>
+fn typed(alloc: Global, label: Label, kind: &Kind) -> Result<HeadingAdvance, Memory>
     ensures { IfOk result (λ t. heading_advance_of t ≡ heading_advanced (Typed label) kind.now) }
 {
     match kind {
-        TokenKind::Word(name) => {
+        Kind::Word(name) => {
             let name = name.copy(alloc)?;
             Ok(HeadingAdvance::Goes(Heading::Titled(label, name)))
         }
@@ -62,36 +62,56 @@ fn typed(alloc: Global, label: Label, kind: &TokenKind) -> Result<HeadingAdvance
     }
 }
 
+fn titled(label: Label, name: Name, kind: &Kind) -> HeadingAdvance
+    ensures { heading_advance_of result ≡ heading_advanced (Titled label name) kind.now }
+{
+    match kind {
+        Kind::Semi => end(label, name, None),
+        Kind::LBracket => HeadingAdvance::Goes(Heading::Sizing(label, name)),
+        _ => HeadingAdvance::Wrong,
+    }
+}
+
+fn sizing(label: Label, name: Name, kind: &Kind) -> HeadingAdvance
+    ensures { heading_advance_of result ≡ heading_advanced (Sizing label name) kind.now }
+{
+    match kind {
+        Kind::Num(value) => size(label, name, *value),
+        _ => HeadingAdvance::Wrong,
+    }
+}
+
+fn sized(label: Label, name: Name, length: u64, kind: &Kind) -> HeadingAdvance
+    ensures { heading_advance_of result ≡ heading_advanced (Sized label name length) kind.now }
+{
+    match kind {
+        Kind::RBracket => HeadingAdvance::Goes(Heading::Closing(label, name, length)),
+        _ => HeadingAdvance::Wrong,
+    }
+}
+
+fn closing(label: Label, name: Name, length: u64, kind: &Kind) -> HeadingAdvance
+    ensures { heading_advance_of result ≡ heading_advanced (Closing label name length) kind.now }
+{
+    match kind {
+        Kind::Semi => end(label, name, Some(length)),
+        _ => HeadingAdvance::Wrong,
+    }
+}
+
 /// Reads the next token of a declaration. `Memory` says nothing about the tokens.
-pub fn read_heading(
-    alloc: Global,
-    heading: Heading,
-    kind: &TokenKind,
-) -> Result<HeadingAdvance, Memory>
+pub fn read_heading(alloc: Global, heading: Heading, kind: &Kind) -> Result<HeadingAdvance, Memory>
     ensures { IfOk result (λ t. heading_advance_of t ≡ heading_advanced (heading_of heading) kind.now) }
 {
     match heading {
         Heading::Labelled(label) => match kind {
-            TokenKind::Int => Ok(HeadingAdvance::Goes(Heading::Typed(label))),
+            Kind::Int => Ok(HeadingAdvance::Goes(Heading::Typed(label))),
             _ => Ok(HeadingAdvance::Wrong),
         },
         Heading::Typed(label) => typed(alloc, label, kind),
-        Heading::Titled(label, name) => match kind {
-            TokenKind::Semi => Ok(end(label, name, None)),
-            TokenKind::LBracket => Ok(HeadingAdvance::Goes(Heading::Sizing(label, name))),
-            _ => Ok(HeadingAdvance::Wrong),
-        },
-        Heading::Sizing(label, name) => match kind {
-            TokenKind::Num(value) => Ok(size(label, name, *value)),
-            _ => Ok(HeadingAdvance::Wrong),
-        },
-        Heading::Sized(label, name, length) => match kind {
-            TokenKind::RBracket => Ok(HeadingAdvance::Goes(Heading::Closing(label, name, length))),
-            _ => Ok(HeadingAdvance::Wrong),
-        },
-        Heading::Closing(label, name, length) => match kind {
-            TokenKind::Semi => Ok(end(label, name, Some(length))),
-            _ => Ok(HeadingAdvance::Wrong),
-        },
+        Heading::Titled(label, name) => Ok(titled(label, name, kind)),
+        Heading::Sizing(label, name) => Ok(sizing(label, name, kind)),
+        Heading::Sized(label, name, length) => Ok(sized(label, name, length, kind)),
+        Heading::Closing(label, name, length) => Ok(closing(label, name, length, kind)),
     }
 }

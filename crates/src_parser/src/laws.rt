@@ -1,5 +1,5 @@
 ghost use Rattle.std.specs.Prelude.{◌≡◌, ◌≢◌, ℕ, List, Err};
-ghost use Rattle.src_lexer.specs.declared.tokens.TokenKind.{TokenKind};
+ghost use Rattle.src_lexer.specs.declared.tokens.Kind.{Kind};
 ghost use Rattle.src_lexer.specs.declared.tokens.Token.{Token};
 ghost use Rattle.src_lexer.specs.Prelude.{Splits};
 ghost use Rattle.src_lexer.specs.declared.errors.LexError.{LexError};
@@ -14,7 +14,7 @@ ghost use Rattle.src_parser.specs.Refusals.{token_kinds, Unexpected, TooDeep, Cu
 
 /// A law: tokens are at most one program.
 pub fn one_tree()
-    ensures { (tokens : List TokenKind) (p q : Source) → Sentence limits tokens p → Sentence limits tokens q → p ≡ q }
+    ensures { (tokens : List Kind) (p q : Source) → Sentence limits tokens p → Sentence limits tokens q → p ≡ q }
 {}
 
 /// A law: no error is true of tokens that are a program.

@@ -9,7 +9,7 @@ use crate::errors::ParseError;
 use crate::expressions::{finish, fresh, read};
 use crate::readings::{Reading, TokenStep};
 use gr_base::Memory;
-use src_lexer::{Token, TokenKind};
+use src_lexer::{Kind, Token};
 use src_tree::Expr;
 use std::alloc::Global;
 
@@ -17,7 +17,7 @@ use std::alloc::Global;
 fn last(alloc: Global, reading: &mut Reading) -> Result<Option<Expr>, Memory>
     ensures { IfOk result (λ e. option_map expr_tree e ≡ ended limits (reading_of reading.old)) }
 {
-    match read(alloc, reading, &TokenKind::Semi)? {
+    match read(alloc, reading, &Kind::Semi)? {
         TokenStep::Moves => Ok(None),
         TokenStep::Stops => Ok(finish(reading)),
         TokenStep::Deep => Ok(None),

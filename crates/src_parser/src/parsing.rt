@@ -1,11 +1,11 @@
-ghost use Rattle.std.specs.Prelude.{◌≡◌, [], IfOk, IfErr, OnOk, option_map};
+ghost use Rattle.std.specs.Prelude.{◌≡◌, ◌++◌, ◌∷◌, [], IfOk, IfErr, OnOk, option_map};
 ghost use Rattle.src_tree.specs.Prelude.{source_of, statement_of};
 ghost use Rattle.src_parser.specs.Explained.{ExplainsTokens};
 ghost use Rattle.src_parser.specs.Grammar.{limits, Sentence};
 ghost use Rattle.src_parser.specs.Readers.{ReadsTo, Stops};
 ghost use Rattle.src_parser.specs.Refusals.{token_kinds};
 ghost use Rattle.src_parser.specs.Seen.{advance_of, among, state_of, heading_of, phase_of};
-ghost use Rattle.src_parser.specs.Advances.{between, advanced, programs, program_of, Declaring, Doing};
+ghost use Rattle.src_parser.specs.Advances.{between, advanced, programs, program_of, Between, Declaring, Doing};
 ghost use Rattle.src_parser.specs.Statements.{between_statements};
 ghost use Rattle.src_parser.specs.Tokenwise.{mapped};
 
@@ -13,23 +13,24 @@ use crate::assignments::read_assignment;
 use crate::errors::ParseError;
 use crate::headings::{Heading, HeadingAdvance, read_heading};
 use crate::languages::Programs;
-use crate::putting::put;
+use crate::putting::{push, put};
 use crate::readers::{TokenReader, read_tree};
 use crate::statements::{begin, complete, perform};
 use crate::states::{Advance, Blocks, ParserState, Pause, Phase};
 use gr_base::Memory;
 use gr_word::Label;
-use src_lexer::{Token, TokenKind};
+use src_lexer::{Kind, Token};
 use src_tree::{Decl, Program, Stmt};
 use std::alloc::Global;
 use std::mem;
 
 // Reads the first token of the statements.
+#[tactic(auto, using(crate::proofs::ProgramSteps::in_program))]
 fn start(
     alloc: Global,
     state: &mut ParserState,
     decls: Vec<Decl>,
-    kind: &TokenKind,
+    kind: &Kind,
 ) -> Result<Advance, Memory>
     ensures { IfOk result (λ t. advance_of t (state_of state.new)
         ≡ mapped (Doing decls.items) (between_statements programs [] [] kind.now)) }
@@ -49,19 +50,19 @@ fn begin_declaration(
     alloc: Global,
     state: &mut ParserState,
     decls: Vec<Decl>,
-    kind: &TokenKind,
+    kind: &Kind,
 ) -> Result<Advance, Memory>
     ensures { IfOk result (λ t. advance_of t (state_of state.new) ≡ between decls.items kind.now) }
 {
     match kind {
-        TokenKind::Public => {
+        Kind::Public => {
             put(
                 state,
                 ParserState::Declaring(decls, Heading::Labelled(Label::Public)),
             );
             Ok(Advance::Goes)
         }
-        TokenKind::Secret => {
+        Kind::Secret => {
             put(
                 state,
                 ParserState::Declaring(decls, Heading::Labelled(Label::Secret)),
@@ -72,13 +73,22 @@ fn begin_declaration(
     }
 }
 
+// Adds a declaration that is complete; the next one may begin.
+fn add_declaration(state: &mut ParserState, mut decls: Vec<Decl>, decl: Decl) -> Result<(), Memory>
+    ensures { IfOk result (λ _. state_of state.new ≡ Between (decls.items ++ decl ∷ [])) }
+{
+    push(&mut decls, decl)?;
+    put(state, ParserState::Between(decls));
+    Ok(())
+}
+
 // Reads the next token of a declaration.
 fn declare(
     alloc: Global,
     state: &mut ParserState,
-    mut decls: Vec<Decl>,
+    decls: Vec<Decl>,
     heading: Heading,
-    kind: &TokenKind,
+    kind: &Kind,
 ) -> Result<Advance, Memory>
     ensures { IfOk result (λ t. advance_of t (state_of state.new)
         ≡ advanced limits (Declaring decls.items (heading_of heading)) kind.now) }
@@ -89,8 +99,7 @@ fn declare(
             Ok(Advance::Goes)
         }
         HeadingAdvance::Ends(decl) => {
-            decls.push(decl)?;
-            put(state, ParserState::Between(decls));
+            add_declaration(state, decls, decl)?;
             Ok(Advance::Goes)
         }
         HeadingAdvance::Wrong => Ok(Advance::Wrong),
@@ -98,7 +107,8 @@ fn declare(
 }
 
 // Reads the next token of a program.
-fn take(alloc: Global, state: &mut ParserState, kind: &TokenKind) -> Result<Advance, Memory>
+#[tactic(auto, using(crate::proofs::ProgramSteps::in_program))]
+fn take(alloc: Global, state: &mut ParserState, kind: &Kind) -> Result<Advance, Memory>
     ensures { IfOk result (λ t. advance_of t (state_of state.new) ≡ advanced limits (state_of state.old) kind.now) }
 {
     match state {

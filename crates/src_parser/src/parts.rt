@@ -1,7 +1,7 @@
-ghost use Rattle.std.specs.Prelude.{◌≡◌, IfOk};
+ghost use Rattle.std.specs.Prelude.{◌≡◌, ℕ, IfOk, option_map};
 ghost use Rattle.src_tree.specs.Prelude.{expr_tree};
 ghost use Rattle.src_parser.specs.Grammar.{limits, comparison_of};
-ghost use Rattle.src_parser.specs.Parts.{behind_expression, comparing, part_advanced};
+ghost use Rattle.src_parser.specs.Parts.{behind_expression, comparing, ending_where, guarding, part_advanced, placing, targeting, Place, Right, Stored, Value};
 ghost use Rattle.src_parser.specs.Seen.{asked_seen, form_of, lead_of, part_of, part_advance_of};
 
 use crate::expressions::{finish, fresh, read};
@@ -9,7 +9,7 @@ use crate::putting::put;
 use crate::readings::{Reading, TokenStep};
 use gr_base::Memory;
 use gr_word::{Cmp, Name};
-use src_lexer::TokenKind;
+use src_lexer::Kind;
 use src_tree::{Expr, Guard};
 use std::alloc::Global;
 use std::mem;
@@ -66,53 +66,81 @@ pub enum PartAdvance {
 }
 
 // The comparison of a sign.
-fn comparison(kind: &TokenKind) -> Option<Cmp>
+fn comparison(kind: &Kind) -> Option<Cmp>
     ensures { result ≡ comparison_of kind.now }
 {
     match kind {
-        TokenKind::Eq => Some(Cmp::Eq),
-        TokenKind::Ne => Some(Cmp::Ne),
-        TokenKind::Lt => Some(Cmp::Lt),
-        TokenKind::Le => Some(Cmp::Le),
-        TokenKind::Gt => Some(Cmp::Gt),
-        TokenKind::Ge => Some(Cmp::Ge),
+        Kind::Eq => Some(Cmp::Eq),
+        Kind::Ne => Some(Cmp::Ne),
+        Kind::Lt => Some(Cmp::Lt),
+        Kind::Le => Some(Cmp::Le),
+        Kind::Gt => Some(Cmp::Gt),
+        Kind::Ge => Some(Cmp::Ge),
         _ => None,
     }
 }
 
+// Reads a token after the name in an assignment.
+fn name_on(alloc: Global, part: &mut Part, name: Name, kind: &Kind) -> PartAdvance
+    ensures { part_advance_of result (part_of part.new) ≡ targeting name kind.now }
+{
+    match kind {
+        Kind::Assign => {
+            put(part, Part::Inside(Asked::Value(name), fresh(alloc, 0, 0)));
+            PartAdvance::Moves
+        }
+        Kind::LBracket => {
+            put(part, Part::Inside(Asked::Place(name), fresh(alloc, 1, 0)));
+            PartAdvance::Moves
+        }
+        _ => PartAdvance::Wrong,
+    }
+}
+
+// Reads a token after the index in an assignment.
+fn index_on(
+    alloc: Global,
+    part: &mut Part,
+    name: Name,
+    index: Expr,
+    used: u32,
+    kind: &Kind,
+) -> PartAdvance
+    ensures { part_advance_of result (part_of part.new) ≡ placing name (expr_tree index) used kind.now }
+{
+    match kind {
+        Kind::Assign => {
+            put(
+                part,
+                Part::Inside(Asked::Stored(name, index), fresh(alloc, 0, used)),
+            );
+            PartAdvance::Moves
+        }
+        _ => PartAdvance::Wrong,
+    }
+}
+
+// Reads a token after the keyword of a guard.
+fn guard_on(alloc: Global, part: &mut Part, form: Form, kind: &Kind) -> PartAdvance
+    ensures { part_advance_of result (part_of part.new) ≡ guarding (form_of form) kind.now }
+{
+    match kind {
+        Kind::LParen => {
+            put(part, Part::Inside(Asked::Left(form), fresh(alloc, 0, 0)));
+            PartAdvance::Moves
+        }
+        _ => PartAdvance::Wrong,
+    }
+}
+
 // Reads a token before an expression.
-fn lead_on(alloc: Global, part: &mut Part, lead: Lead, kind: &TokenKind) -> PartAdvance
+fn lead_on(alloc: Global, part: &mut Part, lead: Lead, kind: &Kind) -> PartAdvance
     ensures { part_advance_of result (part_of part.new) ≡ part_advanced limits (lead_of lead) kind.now }
 {
     match lead {
-        Lead::Target(name) => match kind {
-            TokenKind::Assign => {
-                put(part, Part::Inside(Asked::Value(name), fresh(alloc, 0, 0)));
-                PartAdvance::Moves
-            }
-            TokenKind::LBracket => {
-                put(part, Part::Inside(Asked::Place(name), fresh(alloc, 1, 0)));
-                PartAdvance::Moves
-            }
-            _ => PartAdvance::Wrong,
-        },
-        Lead::Placed(name, index, used) => match kind {
-            TokenKind::Assign => {
-                put(
-                    part,
-                    Part::Inside(Asked::Stored(name, index), fresh(alloc, 0, used)),
-                );
-                PartAdvance::Moves
-            }
-            _ => PartAdvance::Wrong,
-        },
-        Lead::Guarding(form) => match kind {
-            TokenKind::LParen => {
-                put(part, Part::Inside(Asked::Left(form), fresh(alloc, 0, 0)));
-                PartAdvance::Moves
-            }
-            _ => PartAdvance::Wrong,
-        },
+        Lead::Target(name) => name_on(alloc, part, name, kind),
+        Lead::Placed(name, index, used) => index_on(alloc, part, name, index, used, kind),
+        Lead::Guarding(form) => guard_on(alloc, part, form, kind),
     }
 }
 
@@ -123,7 +151,7 @@ fn compare(
     form: Form,
     left: Expr,
     used: u32,
-    kind: &TokenKind,
+    kind: &Kind,
 ) -> PartAdvance
     ensures { part_advance_of result (part_of part.new)
         ≡ comparing (form_of form) (expr_tree left) used (comparison_of kind.now) }
@@ -140,6 +168,53 @@ fn compare(
     }
 }
 
+// Reads a token after the value of a variable.
+fn end_variable(name: Name, value: Expr, kind: &Kind) -> PartAdvance
+    ensures { (part : Part) (used : ℕ)
+        → part_advance_of result (part_of part) ≡ behind_expression (Value name) (expr_tree value) used kind.now }
+{
+    match kind {
+        Kind::Semi => PartAdvance::Ends(Made::Variable(name, value)),
+        _ => PartAdvance::Wrong,
+    }
+}
+
+// Reads a token after the index of an element.
+fn end_index(part: &mut Part, name: Name, index: Expr, used: u32, kind: &Kind) -> PartAdvance
+    ensures { part_advance_of result (part_of part.new)
+        ≡ behind_expression (Place name) (expr_tree index) used kind.now }
+{
+    match kind {
+        Kind::RBracket => {
+            put(part, Part::Before(Lead::Placed(name, index, used)));
+            PartAdvance::Moves
+        }
+        _ => PartAdvance::Wrong,
+    }
+}
+
+// Reads a token after the value of an element.
+fn end_element(name: Name, index: Expr, value: Expr, kind: &Kind) -> PartAdvance
+    ensures { (part : Part) (used : ℕ) → part_advance_of result (part_of part)
+        ≡ behind_expression (Stored name (expr_tree index)) (expr_tree value) used kind.now }
+{
+    match kind {
+        Kind::Semi => PartAdvance::Ends(Made::Element(name, index, value)),
+        _ => PartAdvance::Wrong,
+    }
+}
+
+// Reads a token after the right side of a guard.
+fn end_guard(form: Form, cmp: Cmp, left: Expr, right: Expr, kind: &Kind) -> PartAdvance
+    ensures { (part : Part) (used : ℕ) → part_advance_of result (part_of part)
+        ≡ behind_expression (Right (form_of form) cmp (expr_tree left)) (expr_tree right) used kind.now }
+{
+    match kind {
+        Kind::RParen => PartAdvance::Ends(Made::Guard(form, Guard { cmp, left, right })),
+        _ => PartAdvance::Wrong,
+    }
+}
+
 // Reads a token after the whole expression.
 fn end(
     alloc: Global,
@@ -147,44 +222,40 @@ fn end(
     asked: Asked,
     tree: Expr,
     used: u32,
-    kind: &TokenKind,
+    kind: &Kind,
 ) -> PartAdvance
     ensures { part_advance_of result (part_of part.new)
         ≡ behind_expression (asked_seen asked) (expr_tree tree) used kind.now }
 {
     match asked {
-        Asked::Value(name) => match kind {
-            TokenKind::Semi => PartAdvance::Ends(Made::Variable(name, tree)),
-            _ => PartAdvance::Wrong,
-        },
-        Asked::Place(name) => match kind {
-            TokenKind::RBracket => {
-                put(part, Part::Before(Lead::Placed(name, tree, used)));
-                PartAdvance::Moves
-            }
-            _ => PartAdvance::Wrong,
-        },
-        Asked::Stored(name, index) => match kind {
-            TokenKind::Semi => PartAdvance::Ends(Made::Element(name, index, tree)),
-            _ => PartAdvance::Wrong,
-        },
+        Asked::Value(name) => end_variable(name, tree, kind),
+        Asked::Place(name) => end_index(part, name, tree, used, kind),
+        Asked::Stored(name, index) => end_element(name, index, tree, kind),
         Asked::Left(form) => compare(alloc, part, form, tree, used, kind),
-        Asked::Right(form, cmp, left) => match kind {
-            TokenKind::RParen => PartAdvance::Ends(Made::Guard(
-                form,
-                Guard {
-                    cmp,
-                    left,
-                    right: tree,
-                },
-            )),
-            _ => PartAdvance::Wrong,
-        },
+        Asked::Right(form, cmp, left) => end_guard(form, cmp, left, tree, kind),
+    }
+}
+
+// Reads a token where an expression ends, if it is whole.
+fn end_if_whole(
+    alloc: Global,
+    part: &mut Part,
+    asked: Asked,
+    tree: Option<Expr>,
+    used: u32,
+    kind: &Kind,
+) -> PartAdvance
+    ensures { part_advance_of result (part_of part.new)
+        ≡ ending_where (asked_seen asked) (option_map expr_tree tree) used kind.now }
+{
+    match tree {
+        Some(tree) => end(alloc, part, asked, tree, used, kind),
+        None => PartAdvance::Wrong,
     }
 }
 
 /// Reads the next token of a part. `Memory` says nothing about the tokens.
-pub fn read_part(alloc: Global, part: &mut Part, kind: &TokenKind) -> Result<PartAdvance, Memory>
+pub fn read_part(alloc: Global, part: &mut Part, kind: &Kind) -> Result<PartAdvance, Memory>
     ensures { IfOk result (λ t. part_advance_of t (part_of part.new) ≡ part_advanced limits (part_of part.old) kind.now) }
 {
     match part {
@@ -195,12 +266,10 @@ pub fn read_part(alloc: Global, part: &mut Part, kind: &TokenKind) -> Result<Par
         Part::Inside(asked, reading) => match read(alloc, reading, kind)? {
             TokenStep::Moves => Ok(PartAdvance::Moves),
             TokenStep::Stops => {
-                let asked = mem::replace(asked, Asked::Left(Form::Choice));
                 let used = reading.used;
-                match finish(reading) {
-                    None => Ok(PartAdvance::Wrong),
-                    Some(tree) => Ok(end(alloc, part, asked, tree, used, kind)),
-                }
+                let tree = finish(reading);
+                let asked = mem::replace(asked, Asked::Left(Form::Choice));
+                Ok(end_if_whole(alloc, part, asked, tree, used, kind))
             }
             TokenStep::Deep => Ok(PartAdvance::TooMuch),
         },

@@ -1,5 +1,6 @@
-ghost use Rattle.std.specs.Prelude.{◌≡◌};
+ghost use Rattle.std.specs.Prelude.{◌≡◌, ◌++◌, ◌∷◌, [], IfOk};
 
+use gr_base::Memory;
 use std::mem;
 
 /// Replaces a value, and drops the old one here. Only this function does: in an assignment to a place of a large type,
@@ -19,4 +20,13 @@ pub fn take_list<T>(place: &mut Vec<T>, next: Vec<T>) -> Vec<T>
     let mut list = mem::replace(place, next);
     list.shrink_to_fit();
     list
+}
+
+// Adds an item to the end of a list. Only this function does: what a push may reach when memory runs out is proved in
+// line, at each such place again.
+pub(crate) fn push<T: Drop>(list: &mut Vec<T>, item: T) -> Result<(), Memory>
+    ensures { IfOk result (λ _. list.new.items ≡ list.old.items ++ item ∷ []) }
+{
+    list.push(item)?;
+    Ok(())
 }

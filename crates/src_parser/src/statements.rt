@@ -1,17 +1,18 @@
 ghost use Rattle.std.specs.Prelude.{◌≡◌, ◌+◌, ◌++◌, ◌∷◌, [], IfOk, length, map, nat_lt, option_map};
 ghost use Rattle.src_tree.specs.Prelude.{test_of};
 ghost use Rattle.src_parser.specs.Grammar.{limits};
-ghost use Rattle.src_parser.specs.Parts.{Done};
-ghost use Rattle.src_parser.specs.Seen.{advance_of, among, form_of, made_of, outer_of, outers_of, pause_of, phase_of};
-ghost use Rattle.src_parser.specs.Statements.{between_statements, chosen, complete_of, depth_in, does, is_complete, elsing, entering, leaving, otherwise, with_part, Among, Ready};
+ghost use Rattle.src_parser.specs.Parts.{Done, Target};
+ghost use Rattle.src_parser.specs.Seen.{advance_of, among, form_of, made_of, outer_of, outers_of, part_of, pause_of, phase_of};
+ghost use Rattle.src_parser.specs.Statements.{between_statements, block_opened, chosen, complete_of, depth_in, does, is_complete, elsing, entering, leaving, otherwise, with_part, Among, Ready};
 ghost use Rattle.src_parser.specs.Tokenwise.{Goes, with_braces};
 
 use crate::languages::Language;
 use crate::parts::{Form, Lead, Made, Part, PartAdvance, read_part};
-use crate::putting::{put, take_list};
+use crate::putting::{push, put, take_list};
 use crate::states::{Advance, Blocks, MAX_BRACES, Outer, Pause, Phase};
 use gr_base::Memory;
-use src_lexer::TokenKind;
+use gr_word::Name;
+use src_lexer::Kind;
 use src_tree::Guard;
 use std::alloc::Global;
 use std::mem;
@@ -26,7 +27,7 @@ pub fn add<L: Language>(
         ≡ Goes (Among (outers_of L.seen blocks.old.outer.items)
         (map L.seen blocks.old.here.items ++ L.seen statement ∷ []) Ready)) }
 {
-    blocks.here.push(statement)?;
+    push(&mut blocks.here, statement)?;
     put(phase, Phase::Between(Pause::Ready));
     Ok(Advance::Goes)
 }
@@ -72,40 +73,45 @@ fn leave<L: Language>(
     }
 }
 
+// An assignment after its name.
+fn target(alloc: Global, name: &Name) -> Result<Part, Memory>
+    ensures { IfOk result (λ p. part_of p ≡ Target name.now) }
+{
+    Ok(Part::Before(Lead::Target(name.copy(alloc)?)))
+}
+
 /// Reads a token between statements.
 pub fn begin<L: Language>(
     alloc: Global,
     blocks: &mut Blocks<L::Stmt>,
     phase: &mut Phase<L::Stmt>,
-    kind: &TokenKind,
+    kind: &Kind,
 ) -> Result<Advance, Memory>
     ensures { IfOk result (λ t. advance_of t (among L.seen blocks.new (phase_of L.seen phase.new))
         ≡ between_statements L.makers (outers_of L.seen blocks.old.outer.items)
         (map L.seen blocks.old.here.items) kind.now) }
 {
     match kind {
-        TokenKind::Word(name) => {
-            put(
-                phase,
-                Phase::InPart(Part::Before(Lead::Target(name.copy(alloc)?))),
-            );
+        Kind::Word(name) => {
+            let part = target(alloc, name)?;
+            put(phase, Phase::InPart(part));
             Ok(Advance::Goes)
         }
-        TokenKind::If => {
+        Kind::If => {
             put(
                 phase,
                 Phase::InPart(Part::Before(Lead::Guarding(Form::Choice))),
             );
             Ok(Advance::Goes)
         }
-        TokenKind::While => {
+        Kind::While => {
             put(
                 phase,
                 Phase::InPart(Part::Before(Lead::Guarding(Form::Loop))),
             );
             Ok(Advance::Goes)
         }
-        TokenKind::RBrace => leave::<L>(blocks, phase),
+        Kind::RBrace => leave::<L>(blocks, phase),
         _ => Ok(Advance::Wrong),
     }
 }
@@ -121,8 +127,25 @@ fn choose<L: Language>(
     ensures here { IfOk result (λ _. map L.seen blocks.new.here.items
         ≡ chosen L.makers (map L.seen blocks.old.here.items) (test_of guard) (map L.seen first.items)) }
 {
-    blocks.here.push(L::choice(guard, first, Vec::new(alloc)))?;
+    push(&mut blocks.here, L::choice(guard, first, Vec::new(alloc)))?;
     Ok(())
+}
+
+// Ends a choice that has no second block, and reads the token after it.
+fn end_choice<L: Language>(
+    alloc: Global,
+    blocks: &mut Blocks<L::Stmt>,
+    phase: &mut Phase<L::Stmt>,
+    guard: Guard,
+    first: Vec<L::Stmt>,
+    kind: &Kind,
+) -> Result<Advance, Memory>
+    ensures { IfOk result (λ t. advance_of t (among L.seen blocks.new (phase_of L.seen phase.new))
+        ≡ between_statements L.makers (outers_of L.seen blocks.old.outer.items)
+        (chosen L.makers (map L.seen blocks.old.here.items) (test_of guard) (map L.seen first.items)) kind.now) }
+{
+    choose::<L>(alloc, blocks, guard, first)?;
+    begin::<L>(alloc, blocks, phase, kind)
 }
 
 // Reads a token after the first block of a choice.
@@ -132,21 +155,18 @@ fn may_else<L: Language>(
     phase: &mut Phase<L::Stmt>,
     guard: Guard,
     first: Vec<L::Stmt>,
-    kind: &TokenKind,
+    kind: &Kind,
 ) -> Result<Advance, Memory>
     ensures { IfOk result (λ t. advance_of t (among L.seen blocks.new (phase_of L.seen phase.new))
         ≡ elsing L.makers (outers_of L.seen blocks.old.outer.items) (map L.seen blocks.old.here.items)
         (test_of guard) (map L.seen first.items) kind.now) }
 {
     match kind {
-        TokenKind::Else => {
+        Kind::Else => {
             put(phase, Phase::Between(Pause::Otherwise(guard, first)));
             Ok(Advance::Goes)
         }
-        _ => {
-            choose::<L>(alloc, blocks, guard, first)?;
-            begin::<L>(alloc, blocks, phase, kind)
-        }
+        _ => end_choice::<L>(alloc, blocks, phase, guard, first, kind),
     }
 }
 
@@ -181,6 +201,22 @@ fn has_room<S>(outside: usize, outer: &[Outer<S>]) -> bool
     outside < MAX_BRACES && outer.len() < MAX_BRACES - outside
 }
 
+// Opens a block. `next` has the statements before it.
+fn open_block<L: Language>(
+    alloc: Global,
+    blocks: &mut Blocks<L::Stmt>,
+    phase: &mut Phase<L::Stmt>,
+    next: Outer<L::Stmt>,
+) -> Result<(), Memory>
+    ensures { IfOk result (λ _. among L.seen blocks.new (phase_of L.seen phase.new)
+        ≡ Among (outer_of L.seen next ∷ outers_of L.seen blocks.old.outer.items) [] Ready) }
+{
+    push(&mut blocks.outer, next)?;
+    blocks.here = Vec::new(alloc);
+    put(phase, Phase::Between(Pause::Ready));
+    Ok(())
+}
+
 // Opens a block, if one more may be open. `next` has the statements before it.
 fn nest<L: Language>(
     alloc: Global,
@@ -197,10 +233,18 @@ fn nest<L: Language>(
         drop(next);
         return Ok(Advance::TooMuch);
     }
-    blocks.outer.push(next)?;
-    blocks.here = Vec::new(alloc);
-    put(phase, Phase::Between(Pause::Ready));
+    open_block::<L>(alloc, blocks, phase, next)?;
     Ok(Advance::Goes)
+}
+
+// The block after a guard, with the statements before its statement.
+fn guarded<L: Language>(form: Form, guard: Guard, before: Vec<L::Stmt>) -> Outer<L::Stmt>
+    ensures { outer_of L.seen result ≡ block_opened (form_of form) (test_of guard) (map L.seen before.items) }
+{
+    match form {
+        Form::Choice => Outer::InFirst(guard, before),
+        Form::Loop => Outer::InLoop(guard, before),
+    }
 }
 
 // Opens the block after a guard.
@@ -211,23 +255,22 @@ fn enter<L: Language>(
     phase: &mut Phase<L::Stmt>,
     form: Form,
     guard: Guard,
-    kind: &TokenKind,
+    kind: &Kind,
 ) -> Result<Advance, Memory>
     ensures { IfOk result (λ t. advance_of t (among L.seen blocks.new (phase_of L.seen phase.new))
         ≡ entering limits outside (outers_of L.seen blocks.old.outer.items)
         (map L.seen blocks.old.here.items) (form_of form) (test_of guard) kind.now) }
 {
     match kind {
-        TokenKind::LBrace => {
+        Kind::LBrace => {
             let before = mem::replace(&mut blocks.here, Vec::new(alloc));
-            match form {
-                Form::Choice => {
-                    nest::<L>(alloc, outside, blocks, phase, Outer::InFirst(guard, before))
-                }
-                Form::Loop => {
-                    nest::<L>(alloc, outside, blocks, phase, Outer::InLoop(guard, before))
-                }
-            }
+            nest::<L>(
+                alloc,
+                outside,
+                blocks,
+                phase,
+                guarded::<L>(form, guard, before),
+            )
         }
         _ => {
             drop(guard);
@@ -244,14 +287,14 @@ fn other<L: Language>(
     phase: &mut Phase<L::Stmt>,
     guard: Guard,
     first: Vec<L::Stmt>,
-    kind: &TokenKind,
+    kind: &Kind,
 ) -> Result<Advance, Memory>
     ensures { IfOk result (λ t. advance_of t (among L.seen blocks.new (phase_of L.seen phase.new))
         ≡ otherwise limits outside (outers_of L.seen blocks.old.outer.items)
         (map L.seen blocks.old.here.items) (test_of guard) (map L.seen first.items) kind.now) }
 {
     match kind {
-        TokenKind::LBrace => {
+        Kind::LBrace => {
             let before = mem::replace(&mut blocks.here, Vec::new(alloc));
             nest::<L>(
                 alloc,
@@ -275,7 +318,7 @@ fn go_on<L: Language>(
     blocks: &mut Blocks<L::Stmt>,
     phase: &mut Phase<L::Stmt>,
     pause: Pause<L::Stmt>,
-    kind: &TokenKind,
+    kind: &Kind,
 ) -> Result<Advance, Memory>
     ensures { IfOk result (λ t. advance_of t (among L.seen blocks.new (phase_of L.seen phase.new))
         ≡ does L.makers limits outside (outers_of L.seen blocks.old.outer.items) (map L.seen blocks.old.here.items)
@@ -299,7 +342,7 @@ pub fn perform<L: Language>(
     outside: usize,
     blocks: &mut Blocks<L::Stmt>,
     phase: &mut Phase<L::Stmt>,
-    kind: &TokenKind,
+    kind: &Kind,
 ) -> Result<Advance, Memory>
     ensures { IfOk result (λ t. advance_of t (among L.seen blocks.new (phase_of L.seen phase.new))
         ≡ does L.makers limits outside (outers_of L.seen blocks.old.outer.items) (map L.seen blocks.old.here.items)

@@ -9,7 +9,7 @@ use Rattle.std.proofs.lemmas.Bool.{eqb-true, eq-eqb, ne_eqb}
 use Rattle.std.proofs.lemmas.Slice.Eq.{bytes_eq-Decides}
 use Rattle.gr_base.specs.Prelude.{◌>>=◌, EachAfter}
 use Rattle.gr_base.proofs.ListTests.{bytes_eq-own}
-use Rattle.src_tree.specs.Prelude.{shown_place, Tree, Number, Variable, Element, Operation}
+use Rattle.src_tree.specs.Prelude.{shown_place, Tree, Variable}
 use Rattle.src_procs.specs.declared.errors.InlineError.{InlineError}
 use Rattle.src_procs.specs.declared.errors.InlineError.TheVariants.{NoProcedure, WrongCount, NotAnArray}
 use Rattle.src_procs.specs.Prelude.{Statement, SetVariable, SetElement, Choice, Loop, Call, Block, Nothing, Then, Parameter, OfValue, OfVariable, Procedure, File, HaveNone, IsFirst, ProcedureFault, FoundCall, calls_in_statement, calls_in, calls_after, Calls, CallFault, CallsNone, CountDiffers, PassesOther, fault_where, procedure_named, is_bare, names_variable, lacks_name, call_fault, next_call, calls_walked, calls_walked_all, procedures_walked, fault_met, calls_fault}

@@ -12,7 +12,7 @@ use Rattle.gr_word.specs.declared.variables.Label.{Label}
 use Rattle.src_tree.specs.declared.trees.Decl.{Decl}
 use Rattle.src_tree.specs.declared.trees.Expr.{Expr}
 use Rattle.src_tree.specs.Prelude.{Tree, Number, Variable, Element, Operation}
-use Rattle.src_procs.specs.Prelude.{Found, found, naming_all, named_by, new_values, new_labels, Arguments, HandsOn, SameStatement, argument_of, argument_seen, arguments_under, bare, handed, with_argument, parameter_name, parameter_of, trees_seen, Renaming, Inlined, Inlines, assigned, both, inlined, inlined_all, inlined_call, inlines_of, blocks_joined, new_name, no_name, renamed, scalars, SameCode, Statement, Call, Nothing, Then, Parameter, OfValue, OfVariable, Procedure}
+use Rattle.src_procs.specs.Prelude.{Found, found, naming_all, named_by, new_values, new_labels, Arguments, HandsOn, SameStatement, argument_of, argument_seen, arguments_under, bare, handed, with_argument, parameter_name, parameter_of, trees_seen, Renaming, Inlined, Inlines, assigned, both, inlined, inlined_all, inlined_call, inlines_of, blocks_joined, new_name, no_name, renamed, scalars, SameCode, Statement, Block, Call, Nothing, Then, Parameter, OfValue, OfVariable, Procedure}
 use Rattle.src_procs.specs.declared.trees.Param.{Param}
 use Rattle.src_procs.proofs.NumbersAdded.{flipped}
 use Rattle.src_procs.proofs.OneStep.{inlines_found}
@@ -222,6 +222,18 @@ one_before params arguments at p e name given next lt less first second named is
     (ap (λ (q : Param). q ∷ drop (at + 1) params) first ∙ sym (drop_more params at p lt))
     ∙ ap (λ (es : List (Bor Expr)). argument_of (map parameter_of (drop at params)) (trees_seen es))
     (ap (λ (q : Bor Expr). q ∷ drop (at + 1) arguments) second ∙ sym (drop_more arguments at e less)))))
+
+-- the code of a block is that of its one statement, and that of another that has the same code
+pub one_same : (qs : List Procedure) (s t : Statement) (b : Block) → b ≡ Then t Nothing → SameStatement qs s t
+    → SameCode qs (Then s Nothing) b
+one_same qs s t b is h names next =
+    ap (λ (x : Inlined). both x (inlined_all (inlines_of qs) names Nothing) next) (h names next)
+    ∙ ap (λ (z : Block). inlined_all (inlines_of qs) names z next) (sym is)
+
+pub one_code : (qs : List Procedure) (less b : Block) (s : Statement) → less ≡ Then s Nothing
+    → SameCode qs (Then s Nothing) b → SameCode qs less b
+one_code qs less b s is h names next =
+    ap (λ (z : Block). inlined_all (inlines_of qs) names z next) is ∙ h names next
 
 -- the call that a call comes down to
 pub comes_down : (qs rs : List Procedure) (p : Procedure) (name next : List ℕ) (f : Found) (es ds : List Tree)

@@ -24,7 +24,9 @@ pub mod NumbersAdded
 pub mod Pruning
 pub mod HandedOn
 pub mod NeededNames
+pub mod KeptParameters
 pub mod NeededBindings
 pub mod KeptNames
 pub mod OwnSteps
 pub mod OwnCalls
+pub mod WholeFiles

@@ -1,14 +1,15 @@
 -- How many statements calls are replaced by, from the sizes of the procedures' bodies.
-use Rattle.std.proofs.Common.{inl, inr, map, ◌≡◌, ℕ, zero, suc, ◌+◌, ◌-◌, ◌<◌, ◌≤◌, ◌^◌, Bool, true, false, cond, List, [], ◌∷◌, length, min, take, reverse, get_or, Option, Some, None, refl, sym, ap, ◌∙◌, subst, arith}
+use Rattle.std.proofs.Common.{inl, inr, map, ◌≡◌, ℕ, zero, suc, ◌+◌, ◌-◌, ◌<◌, ◌≤◌, ◌^◌, Bool, true, false, cond, List, [], ◌∷◌, ◌++◌, length, min, take, reverse, get_or, Option, Some, None, refl, sym, ap, ◌∙◌, subst, arith}
 use Rattle.std.specs.Prelude.{bytes_eq}
 use Rattle.std.proofs.lemmas.Bool.{cases_lt}
-use Rattle.std.proofs.lemmas.List.{length-map, length-reverse, length-take-le, take_all, take-map}
+use Rattle.std.proofs.lemmas.List.{get_or-map, get_or_append_left, get_or_push, length-map, length-reverse, length-take-le, length_push, take_all, take-map}
 use Rattle.src_tree.specs.Prelude.{shown_number, Tree, expr_tree}
 use Rattle.src_tree.specs.declared.trees.Decl.{Decl}
 use Rattle.src_tree.specs.declared.trees.Expr.{Expr}
 use Rattle.src_procs.specs.declared.trees.Param.{Param}
 use Rattle.src_procs.specs.declared.trees.Proc.{Proc}
-use Rattle.src_procs.specs.Prelude.{parameter_of, procedure_of, trees_of, no_procedure, found_at, Statement, SetVariable, SetElement, Choice, Loop, Call, Block, Nothing, Then, Parameter, OfValue, OfVariable, Procedure, new_values, Found, found, scalars, HasSizes, IsMeasured, Measured, counted_call, sizes_by, CallSizes, sizes_of, size_of, size_of_all, Names, AreNumbered, by_number}
+use Rattle.src_procs.specs.Prelude.{parameter_of, procedure_of, trees_of, no_procedure, found_at, Statement, SetVariable, SetElement, Choice, Loop, Call, Block, Nothing, Then, Parameter, OfValue, OfVariable, Procedure, new_values, Found, found, scalars, AreSizes, HasSizes, IsMeasured, Measured, counted_call, sizes_by, CallSizes, sizes_of, size_of, size_of_all, Names, AreNumbered, by_number}
+use Rattle.src_procs.specs.Measured.{body_size}
 use Rattle.src_procs.proofs.OneStep.{found_last}
 
 locals_long : (locals : List Decl) → length (new_values [] [] locals) ≡ length locals
@@ -210,6 +211,34 @@ pub same_block : (ps : List Procedure) (sizes : List ℕ) (callable : ℕ) → I
     → shown_number (size_of_all (sizes_by sizes (by_number ps callable numbers)) b)
     ≡ shown_number (size_of_all (sizes_of (reverse (take callable ps))) b)
 same_block ps sizes callable m numbers h b = all_same _ _ (record { same = same_call ps sizes callable m numbers h }) b
+
+-- one more size
+one_size_more : (ps : List Procedure) (sizes : List ℕ) (size : ℕ) → AreSizes ps sizes → length sizes < length ps
+    → size ≡ body_size ps (length sizes) → AreSizes ps (sizes ++ size ∷ [])
+one_size_more ps sizes size known lt is =
+    let long = length_push sizes size in
+    record {
+      short = omega (arith, long, lt);
+      each = λ k below. elim (cases_lt k (length sizes)) [
+        | inl before ↦ get_or_append_left sizes (size ∷ []) 0 k before ∙ known.each k before
+        | inr from ↦ (let last : k ≡ length sizes = omega (long, below, from, arith) in
+            get_or_push sizes size 0 k (sym last) ∙ (is ∙ ap (body_size ps) (sym last)))
+      ];
+    }
+
+-- the size of one more procedure's body
+pub one_body_measured : (procs : List Proc) (sizes : List ℕ) (p : Proc) (i size : ℕ) → length sizes ≡ i
+    → i < length procs → p ≡ get_or procs i p → AreSizes (map procedure_of procs) sizes
+    → size ≡ shown_number (size_of_all (sizes_of (reverse (take i (map procedure_of procs)))) (procedure_of p).body)
+    → AreSizes (map procedure_of procs) (sizes ++ size ∷ [])
+one_body_measured procs sizes p i size long lt at known is =
+    let ps = map procedure_of procs in
+    let all = length-map procs procedure_of in
+    let same : procedure_of p ≡ get_or ps i no_procedure =
+    sym (get_or-map procedure_of procs i p no_procedure lt ∙ ap procedure_of (sym at)) in
+    let here : size ≡ body_size ps i =
+    is ∙ ap (λ (q : Procedure). shown_number (size_of_all (sizes_of (reverse (take i ps))) q.body)) same in
+    one_size_more ps sizes size known (omega (arith, all, long, lt)) (here ∙ ap (body_size ps) (sym long))
 
 pub all_measured : (ps : List Procedure) (sizes : List ℕ) (callable : ℕ) → HasSizes ps sizes
     → IsMeasured ps sizes callable

@@ -1,4 +1,4 @@
-ghost use Rattle.std.specs.Prelude.{◌≡◌, IfOk, OnOk, is_some, pos, map};
+ghost use Rattle.std.specs.Prelude.{◌≡◌, IfOk, OnOk, is_some, length, pos, map};
 ghost use Rattle.gr_base.specs.Prelude.{found_under};
 ghost use Rattle.src_tree.specs.Prelude.{expr_tree, statement_of, Number, SetVariable};
 ghost use Rattle.src_procs.specs.Frames.{named_by};
@@ -27,8 +27,7 @@ fn new_bytes(alloc: Global, n: u64) -> Result<Vec<u8>, Memory>
     ensures { IfOk result (λ bytes. bytes.items ≡ inlined.new_name n) }
 {
     let mut bytes = Vec::new(alloc);
-    bytes.push(b'_')?;
-    bytes.push(b'_')?;
+    bytes.extend_from_slice(b"__")?;
     let mut buffer = Buffer::new();
     bytes.extend_from_slice(buffer.format(n).as_bytes())?;
     Ok(bytes)
@@ -40,6 +39,13 @@ pub(crate) fn new_name(alloc: Global, n: u64) -> Result<Name, Memory>
 {
     let bytes = new_bytes(alloc, n)?;
     Name::new(alloc, bytes.as_slice())
+}
+
+// The name of the next new variable.
+pub(crate) fn next_name(alloc: Global, made: &Made) -> Result<Name, Memory>
+    ensures { IfOk result (λ name. name ≡ inlined.new_name (length made.now.labels.items)) }
+{
+    new_name(alloc, made.labels.len() as u64)
 }
 
 fn is_bound<'a>(bounds: &Bounds<'a>, name: &'a [u8]) -> bool
@@ -116,6 +122,25 @@ pub(crate) fn with_alias<'a>(
     bind(bounds, name.bytes(), other)
 }
 
+// A scalar parameter with its argument.
+fn with_value<'a>(
+    alloc: Global,
+    caller: &Naming<'a>,
+    made: &mut Made,
+    bounds: &mut Bounds<'a>,
+    label: Label,
+    name: &'a Name,
+    argument: &Expr,
+) -> Result<(), Memory>
+    ensures { OnOk result (binding_of bounds.new made.new
+        ≡ spec.with_new (binding_of bounds.old made.old) label name.now
+        (renamed (names_of caller.now) (expr_tree argument.now))) }
+{
+    let stands = next_name(alloc, made)?;
+    let assigned = new_assignment(alloc, caller, &stands, argument)?;
+    with_new(made, bounds, label, name, stands, assigned)
+}
+
 // A parameter with its argument.
 fn with_parameter<'a>(
     alloc: Global,
@@ -131,9 +156,7 @@ fn with_parameter<'a>(
 {
     match param {
         Param::Scalar(label, name) => {
-            let stands = new_name(alloc, made.labels.len() as u64)?;
-            let assigned = new_assignment(alloc, caller, &stands, argument)?;
-            with_new(made, bounds, *label, name, stands, assigned)
+            with_value(alloc, caller, made, bounds, *label, name, argument)
         }
         Param::Array(name) => {
             let other = alias(alloc, caller, argument)?;
@@ -180,6 +203,21 @@ fn with_kept<'a>(
     Ok(())
 }
 
+// A local, which begins as 0.
+fn with_local<'a>(
+    alloc: Global,
+    made: &mut Made,
+    bounds: &mut Bounds<'a>,
+    local: &'a Decl,
+) -> Result<(), Memory>
+    ensures { OnOk result (binding_of bounds.new made.new
+        ≡ spec.with_new (binding_of bounds.old made.old) local.now.label local.now.name (Number (pos 0))) }
+{
+    let stands = next_name(alloc, made)?;
+    let zero = Stmt::Set(stands.copy(alloc)?, Expr::Num(0));
+    with_new(made, bounds, local.label, &local.name, stands, zero)
+}
+
 pub(crate) fn with_locals<'a>(
     alloc: Global,
     made: &mut Made,
@@ -190,9 +228,7 @@ pub(crate) fn with_locals<'a>(
         ≡ spec.with_locals (binding_of bounds.old made.old) locals.now) }
 {
     for local in locals {
-        let stands = new_name(alloc, made.labels.len() as u64)?;
-        let zero = Stmt::Set(stands.copy(alloc)?, Expr::Num(0));
-        with_new(made, bounds, local.label, &local.name, stands, zero)?;
+        with_local(alloc, made, bounds, local)?;
     }
     Ok(())
 }

@@ -3,6 +3,7 @@ ghost use Rattle.gr_base.specs.Prelude.{found_under};
 ghost use Rattle.src_tree.specs.Prelude.{shown_place, expr_tree};
 ghost use Rattle.src_procs.specs.Numbered.{AreNumbered, procedure_by_number};
 ghost use Rattle.src_procs.specs.Seen.{statement_of, block_of_all, trees_of, parameter_of, procedure_of};
+ghost use Rattle.src_procs.specs.Trees.{Call};
 ghost use Rattle.src_procs.specs.InlineFaults as spec;
 
 use crate::errors::InlineError;
@@ -93,6 +94,22 @@ fn next_call(n: u32, fault: Option<InlineError>) -> Result<u32, InlineError>
     }
 }
 
+// The number of the call after this one, or what is wrong with it.
+fn walk_call<'a>(
+    procs: &[Proc],
+    numbers: &Numbers<'a>,
+    callable: usize,
+    n: u32,
+    name: &Name,
+    arguments: &[Expr],
+) -> Result<u32, InlineError>
+    ensures { result ≡ spec.calls_walked
+        (procedure_by_number (map procedure_of procs.now) callable (found_under numbers.now)) n
+        (Call name.now (trees_of arguments.now)) }
+{
+    next_call(n, call_fault(procs, numbers, callable, n, name, arguments))
+}
+
 #[cycle(calls)]
 fn walk_statement<'a>(
     procs: &[Proc],
@@ -113,10 +130,7 @@ fn walk_statement<'a>(
         }
         PStmt::While(_, body) => walk_block(procs, numbers, callable, n, body.as_slice()),
         PStmt::Call(name, arguments) => {
-            next_call(
-                n,
-                call_fault(procs, numbers, callable, n, name, arguments.as_slice()),
-            )
+            walk_call(procs, numbers, callable, n, name, arguments.as_slice())
         }
     }
 }

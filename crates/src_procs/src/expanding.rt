@@ -1,13 +1,14 @@
-ghost use Rattle.std.specs.Prelude.{◌≡◌, ◌∷◌, [], IfOk, OnOk, map, option_map, reverse};
-ghost use Rattle.src_tree.specs.Prelude.{test_of, statement_of};
+ghost use Rattle.std.specs.Prelude.{◌≡◌, ◌∷◌, ◌++◌, [], IfNone, IfOk, IfSome, OnOk, map, option_map, reverse};
+ghost use Rattle.src_tree.specs.Prelude.{SetElement, SetVariable, expr_tree, test_of, statement_of};
+ghost use Rattle.src_procs.specs.Inlined.{renamed};
 ghost use Rattle.src_procs.specs.Expanding.{EndChoice, EndLoop, Open, Rest, Return, closed_choice, closed_loop, plain_statement, put};
-ghost use Rattle.src_procs.specs.Views.{blocks_of, live_block, live_of, names_of, pending_all};
+ghost use Rattle.src_procs.specs.Views.{blocks_of, live_block, live_of, names_of, pending_all, pending_of, statements_seen};
 
 use crate::live::Live;
 use crate::scopes::{Naming, Scope, new_name_of, renamed};
 use gr_base::Memory;
-use gr_word::Label;
-use src_tree::{Guard, Stmt};
+use gr_word::{Label, Name};
+use src_tree::{Expr, Guard, Stmt};
 use std::alloc::Global;
 
 // The statements that are left of a block.
@@ -41,21 +42,46 @@ pub(crate) struct Held<'a> {
     pub made: Made,
 }
 
+// A block is open, inside those that are.
+fn push_block(open_blocks: &mut Vec<Vec<Stmt>>, block: Vec<Stmt>) -> Result<(), Memory>
+    ensures { OnOk result (blocks_of open_blocks.new.items ≡ statements_seen block ∷ blocks_of open_blocks.old.items) }
+{
+    open_blocks.push(block)?;
+    Ok(())
+}
+
+// Takes the innermost block out of those that are open, if there is one.
+fn pop_block(open_blocks: &mut Vec<Vec<Stmt>>) -> Option<Vec<Stmt>>
+    ensures found { IfSome result (λ block. blocks_of open_blocks.old.items
+        ≡ statements_seen block ∷ blocks_of open_blocks.new.items) }
+    ensures none { IfNone result (blocks_of open_blocks.old.items ≡ []) }
+    ensures none_left { IfNone result (blocks_of open_blocks.new.items ≡ []) }
+{
+    open_blocks.pop()
+}
+
+// One statement more in a block.
+fn with_statement(mut block: Vec<Stmt>, s: Stmt) -> Result<Vec<Stmt>, Memory>
+    ensures { IfOk result (λ r. statements_seen r ≡ statements_seen block ++ statement_of s ∷ []) }
+{
+    block.push(s)?;
+    Ok(block)
+}
+
 // One statement more in the innermost open block. What isn't used is dropped by a call, here and below: where a
 // statement, a guard or an expression is dropped in line, all that it may hold is proved there.
 pub(crate) fn put_statement(open_blocks: &mut Vec<Vec<Stmt>>, s: Stmt) -> Result<(), Memory>
     ensures { OnOk result (blocks_of open_blocks.new.items
         ≡ put (statement_of s ∷ []) (blocks_of open_blocks.old.items)) }
 {
-    match open_blocks.pop() {
+    match pop_block(open_blocks) {
         None => {
             drop(s);
             Ok(())
         }
-        Some(mut here) => {
-            here.push(s)?;
-            open_blocks.push(here)?;
-            Ok(())
+        Some(here) => {
+            let here = with_statement(here, s)?;
+            push_block(open_blocks, here)
         }
     }
 }
@@ -65,12 +91,12 @@ pub(crate) fn close_choice(open_blocks: &mut Vec<Vec<Stmt>>, guard: Guard) -> Re
     ensures { OnOk result (blocks_of open_blocks.new.items
         ≡ closed_choice (test_of guard) (blocks_of open_blocks.old.items)) }
 {
-    match open_blocks.pop() {
+    match pop_block(open_blocks) {
         None => {
             drop(guard);
             Ok(())
         }
-        Some(second) => match open_blocks.pop() {
+        Some(second) => match pop_block(open_blocks) {
             None => {
                 drop(guard);
                 Ok(())
@@ -85,7 +111,7 @@ pub(crate) fn close_loop(open_blocks: &mut Vec<Vec<Stmt>>, guard: Guard) -> Resu
     ensures { OnOk result (blocks_of open_blocks.new.items
         ≡ closed_loop (test_of guard) (blocks_of open_blocks.old.items)) }
 {
-    match open_blocks.pop() {
+    match pop_block(open_blocks) {
         None => {
             drop(guard);
             Ok(())
@@ -98,8 +124,40 @@ pub(crate) fn close_loop(open_blocks: &mut Vec<Vec<Stmt>>, guard: Guard) -> Resu
 pub(crate) fn open_block(alloc: Global, open_blocks: &mut Vec<Vec<Stmt>>) -> Result<(), Memory>
     ensures { OnOk result (blocks_of open_blocks.new.items ≡ [] ∷ blocks_of open_blocks.old.items) }
 {
-    open_blocks.push(Vec::new(alloc))?;
-    Ok(())
+    push_block(open_blocks, Vec::new(alloc))
+}
+
+// The program's assignment to a variable.
+fn set<'a>(alloc: Global, names: &Naming<'a>, name: &Name, value: &Expr) -> Result<Stmt, Memory>
+    ensures { IfOk result (λ s. statement_of s
+        ≡ SetVariable (names_of names.now name.now) (renamed (names_of names.now) (expr_tree value.now))) }
+{
+    let name = new_name_of(alloc, names, name)?;
+    let value = renamed(alloc, names, value)?;
+    Ok(Stmt::Set(name, value))
+}
+
+// The program's assignment to an element.
+fn set_element<'a>(
+    alloc: Global,
+    names: &Naming<'a>,
+    name: &Name,
+    index: &Expr,
+    value: &Expr,
+) -> Result<Stmt, Memory>
+    ensures { IfOk result (λ s. statement_of s
+        ≡ SetElement (names_of names.now name.now) (renamed (names_of names.now) (expr_tree index.now))
+        (renamed (names_of names.now) (expr_tree value.now))) }
+{
+    let name = new_name_of(alloc, names, name)?;
+    let index = renamed(alloc, names, index)?;
+    match renamed(alloc, names, value) {
+        Ok(value) => Ok(Stmt::Put(name, index, value)),
+        Err(error) => {
+            drop(index);
+            Err(error)
+        }
+    }
 }
 
 // The statement of the program for an assignment.
@@ -111,26 +169,22 @@ pub(crate) fn assignment<'a>(
     ensures { IfOk result (λ made. option_map statement_of made ≡ plain_statement (names_of names.now) (live_of s.now)) }
 {
     match s {
-        Live::Set(name, value) => {
-            let name = new_name_of(alloc, names, *name)?;
-            let value = renamed(alloc, names, *value)?;
-            Ok(Some(Stmt::Set(name, value)))
-        }
+        Live::Set(name, value) => Ok(Some(set(alloc, names, *name, *value)?)),
         Live::Put(name, index, value) => {
-            let name = new_name_of(alloc, names, *name)?;
-            let index = renamed(alloc, names, *index)?;
-            match renamed(alloc, names, *value) {
-                Ok(value) => Ok(Some(Stmt::Put(name, index, value))),
-                Err(error) => {
-                    drop(index);
-                    Err(error)
-                }
-            }
+            Ok(Some(set_element(alloc, names, *name, *index, *value)?))
         }
         Live::If(_, _, _) => Ok(None),
         Live::While(_, _) => Ok(None),
         Live::Call(_, _) => Ok(None),
     }
+}
+
+// One thing more is to be done, before all others.
+fn wait<'b, 'a>(waiting: &mut Vec<Pending<'b, 'a>>, next: Pending<'b, 'a>) -> Result<(), Memory>
+    ensures { OnOk result (pending_all waiting.new.items ≡ pending_of next.entry ∷ pending_all waiting.old.items) }
+{
+    waiting.push(next)?;
+    Ok(())
 }
 
 // The statements after one are to be done.
@@ -141,8 +195,7 @@ pub(crate) fn waits_for<'b, 'a>(
     ensures { OnOk result (pending_all waiting.new.items
         ≡ Rest (live_block others.now) ∷ pending_all waiting.old.items) }
 {
-    waiting.push(Pending::Rest(Left { statements: others }))?;
-    Ok(())
+    wait(waiting, Pending::Rest(Left { statements: others }))
 }
 
 // The statements of a procedure are to be done, and then the caller's names count again.
@@ -153,9 +206,8 @@ pub(crate) fn waits_for_call<'b, 'a>(
     ensures { OnOk result (pending_all waiting.new.items
         ≡ Rest (live_block body.now) ∷ Return ∷ pending_all waiting.old.items) }
 {
-    waiting.push(Pending::Return)?;
-    waiting.push(Pending::Rest(Left { statements: body }))?;
-    Ok(())
+    wait(waiting, Pending::Return)?;
+    waits_for(waiting, body)
 }
 
 // The blocks of a choice are to be done, the second in a block that opens after the first.
@@ -169,11 +221,10 @@ pub(crate) fn waits_for_choice<'b, 'a>(
         ≡ Rest (live_block first.now) ∷ Open ∷ Rest (live_block second.now) ∷ EndChoice (test_of guard)
         ∷ pending_all waiting.old.items) }
 {
-    waiting.push(Pending::EndChoice(guard))?;
-    waiting.push(Pending::Rest(Left { statements: second }))?;
-    waiting.push(Pending::Open)?;
-    waiting.push(Pending::Rest(Left { statements: first }))?;
-    Ok(())
+    wait(waiting, Pending::EndChoice(guard))?;
+    waits_for(waiting, second)?;
+    wait(waiting, Pending::Open)?;
+    waits_for(waiting, first)
 }
 
 // The body of a loop is to be done.
@@ -185,7 +236,6 @@ pub(crate) fn waits_for_loop<'b, 'a>(
     ensures { OnOk result (pending_all waiting.new.items
         ≡ Rest (live_block body.now) ∷ EndLoop (test_of guard) ∷ pending_all waiting.old.items) }
 {
-    waiting.push(Pending::EndLoop(guard))?;
-    waiting.push(Pending::Rest(Left { statements: body }))?;
-    Ok(())
+    wait(waiting, Pending::EndLoop(guard))?;
+    waits_for(waiting, body)
 }

@@ -1,4 +1,4 @@
-ghost use Rattle.std.specs.Prelude.{◌≡◌, ◌<◌, ◌≤◌, IfOk, IfSome, OnOk, Some, length, map, option_map, reverse, take};
+ghost use Rattle.std.specs.Prelude.{◌≡◌, ◌<◌, ◌≤◌, ◌++◌, ◌∷◌, [], IfOk, IfSome, OnOk, Some, length, map, option_map, reverse, take};
 ghost use Rattle.gr_base.specs.Prelude.{found_under};
 ghost use Rattle.src_tree.specs.Prelude.{expr_tree};
 ghost use Rattle.src_procs.specs.Handed.{HandsOn, SameStatement, argument_seen, arguments_under};
@@ -84,6 +84,15 @@ fn handed<'a>(given: &Given<'a>, e: &'a Expr) -> Option<&'a Expr>
     }
 }
 
+// One argument more.
+pub(crate) fn add<'a>(arguments: &mut Vec<&'a Expr>, argument: &'a Expr) -> Result<(), Memory>
+    ensures { OnOk result (trees_seen arguments.new.items
+        ≡ trees_seen arguments.old.items ++ expr_tree argument.now ∷ []) }
+{
+    arguments.push(argument)?;
+    Ok(())
+}
+
 fn all_handed<'a>(
     alloc: Global,
     given: &Given<'a>,
@@ -96,10 +105,25 @@ fn all_handed<'a>(
     for e in es {
         match handed(given, *e) {
             None => return Ok(None),
-            Some(argument) => all.push(argument)?,
+            Some(argument) => add(&mut all, argument)?,
         }
     }
     Ok(Some(all))
+}
+
+// The arguments of a procedure's call for a call of that procedure with these, where they are bare names of the caller.
+fn handed_arguments<'a>(
+    alloc: Global,
+    params: &'a [Param],
+    arguments: &[&'a Expr],
+    own: &[&'a Expr],
+) -> Result<Option<Vec<&'a Expr>>, Memory>
+    requires { length params.now ≡ length arguments.now }
+    ensures { IfOk result (λ r. IfSome r (λ all. map Some (trees_seen all.items)
+        ≡ map (spec.handed (spec.argument_of (map parameter_of params.now) (trees_seen arguments.now))) (trees_seen own.now))) }
+{
+    let given = by_name(alloc, params, arguments)?;
+    all_handed(alloc, &given, own)
 }
 
 // A call with its arguments.
@@ -150,8 +174,7 @@ fn handed_on<'a>(
     if scalars(params) != 0 {
         return Ok(None);
     }
-    let given = by_name(alloc, params, arguments)?;
-    match all_handed(alloc, &given, next.arguments)? {
+    match handed_arguments(alloc, params, arguments, next.arguments)? {
         None => Ok(None),
         Some(all) => Ok(Some(Live::Call(next.name, all))),
     }
@@ -193,7 +216,47 @@ fn passed_on<'a>(
     }
 }
 
+// The call that some statements come down to, where they are one call.
+fn passed_down<'a>(
+    alloc: Global,
+    procs: &'a [Proc],
+    numbers: &Numbers<'a>,
+    bodies: &[Body<'a>],
+    callable: usize,
+    statements: &[Live<'a>],
+) -> Result<Option<Live<'a>>, Memory>
+    requires numbers { AreNumbered (map procedure_of procs.now) (found_under numbers.now) }
+    requires bodies { ArePruned (map procedure_of procs.now) (bodies_of bodies.now) }
+    ensures { IfOk result (λ r. IfSome r (λ live. SameCode (reverse (take callable (map procedure_of procs.now)))
+        (Then (live_of live) Nothing) (live_block statements.now))) }
+{
+    match one_call(statements) {
+        None => Ok(None),
+        Some(call) => {
+            passed_on(
+                alloc,
+                procs,
+                numbers,
+                bodies,
+                callable,
+                call.name,
+                call.arguments,
+            )
+        }
+    }
+}
+
+// A block of one statement.
+fn one_statement<'a>(alloc: Global, live: Live<'a>) -> Result<Vec<Live<'a>>, Memory>
+    ensures { IfOk result (λ r. live_block r.items ≡ Then (live_of live.entry) Nothing) }
+{
+    let mut block = Vec::new(alloc);
+    block.push(live)?;
+    Ok(block)
+}
+
 // Statements, or where they are one call what that comes down to.
+#[tactic(auto, using(crate::proofs::HandedOn::one_code))]
 pub(crate) fn come_down<'a>(
     alloc: Global,
     procs: &'a [Proc],
@@ -207,23 +270,17 @@ pub(crate) fn come_down<'a>(
     ensures { IfOk result (λ r. SameCode (reverse (take callable (map procedure_of procs.now)))
         (live_block r.items) (live_block statements.entry.items)) }
 {
-    let call = match one_call(statements.as_slice()) {
-        None => return Ok(statements),
-        Some(call) => call,
-    };
-    match passed_on(
+    match passed_down(
         alloc,
         procs,
         numbers,
         bodies,
         callable,
-        call.name,
-        call.arguments,
+        statements.as_slice(),
     )? {
         None => Ok(statements),
         Some(live) => {
-            let mut less = Vec::new(alloc);
-            less.push(live)?;
+            let less = one_statement(alloc, live)?;
             Ok(less)
         }
     }

@@ -2,26 +2,28 @@ ghost use Rattle.std.specs.Prelude.{◌≡◌, ◌++◌, ◌∷◌, [], IfErr, I
 ghost use Rattle.gr_base.specs.Prelude.{found_under};
 ghost use Rattle.src_tree.specs.Prelude.{source_of};
 ghost use Rattle.src_procs.specs.declared.errors.InlineError.{InlineError};
-ghost use Rattle.src_procs.specs.Expanding.{first_block, held_start, with_made};
+ghost use Rattle.src_procs.specs.Expanding.{expanded, first_block, held_start, with_made};
 ghost use Rattle.src_procs.specs.CallCauses.{ExplainsInlining, IsFirstCallFault};
 ghost use Rattle.src_procs.specs.InlineFaults.{IsFoundFault, inline_fault};
 ghost use Rattle.src_procs.specs.Inlined.{added, inlined_body, inlined_file};
 ghost use Rattle.src_procs.specs.Measured.{HasSizes};
 ghost use Rattle.src_procs.specs.Numbered.{AreNumbered};
 ghost use Rattle.src_procs.specs.Promise.{ArePlain, KeepsMeaning};
+ghost use Rattle.src_procs.specs.Pruned.{AreReady};
 ghost use Rattle.src_procs.specs.Seen.{block_of_all, file_of, procedure_of};
-ghost use Rattle.src_procs.specs.Views.{bare_file, blocks_of, own_held, source_made, statements_seen};
+ghost use Rattle.src_procs.specs.Views.{bare_file, blocks_of, live_block, own_held, source_made, statements_seen};
 
 use crate::binding::new_name;
 use crate::call_faults::walk_file;
 use crate::errors::InlineError;
-use crate::expanding::Made;
+use crate::expanding::{Held, Made, waits_for};
 use crate::finding::numbers_of;
-use crate::live::live_bodies;
+use crate::live::{Live, live_bodies, live_statements};
 use crate::own_names::{Numbers, procedures_fault};
 use crate::own_statements::expand_own;
+use crate::scopes::{Naming, Scope};
 use crate::sizes::{block_size, body_sizes};
-use crate::stepping::Procedures;
+use crate::stepping::{Procedures, expand, scoped};
 use crate::trees::{PStmt, Proc, ProcFile};
 use gr_base::Memory;
 use gr_word::Label;
@@ -94,6 +96,24 @@ fn begun(alloc: Global, procs: &[Proc]) -> Result<Made, Memory>
     })
 }
 
+// What is made of a file's own statements, where it is known what is left of its procedures.
+fn expanded_with<'b, 'a>(
+    alloc: Global,
+    file: Procedures<'b, 'a>,
+    sizes: &[u64],
+    body: Vec<PStmt>,
+) -> Result<Made, Memory>
+    requires file { AreReady file }
+    requires sizes { HasSizes (map procedure_of file.procs.now) sizes.now }
+    ensures { IfOk result (λ m. own_held file.entry.procs.now m
+        ≡ with_made (held_start (map procedure_of file.entry.procs.now))
+        (inlined_body (bare_file file.entry.procs.now body.items))) }
+{
+    let mut made = begun(alloc, file.procs)?;
+    expand_own(alloc, file, sizes, body, &mut made)?;
+    Ok(made)
+}
+
 // What is made of a file's own statements, with no call left.
 fn expanded<'a>(
     alloc: Global,
@@ -113,9 +133,7 @@ fn expanded<'a>(
         numbers,
         bodies: bodies.as_slice(),
     };
-    let mut made = begun(alloc, procs)?;
-    expand_own(alloc, file, sizes, body, &mut made)?;
-    Ok(made)
+    expanded_with(alloc, file, sizes, body)
 }
 
 // The statements of the innermost block that is open.
@@ -141,6 +159,81 @@ fn finish(alloc: Global, decls: Vec<Decl>, made: Made) -> Result<Program, Memory
     Ok(Program { decls, body })
 }
 
+// A declaration once more.
+fn copy(alloc: Global, decl: &Decl) -> Result<Decl, Memory>
+    ensures { IfOk result (λ d. d ≡ decl.now) }
+{
+    Ok(Decl {
+        name: decl.name.copy(alloc)?,
+        label: decl.label,
+        length: decl.length,
+    })
+}
+
+// Declarations once more.
+fn copied(alloc: Global, decls: &[Decl]) -> Result<Vec<Decl>, Memory>
+    ensures { IfOk result (λ all. all.items ≡ decls.now) }
+{
+    let mut all = Vec::new(alloc);
+    for decl in decls {
+        all.push(copy(alloc, decl)?)?;
+    }
+    Ok(all)
+}
+
+// What is made of statements of the file, in the file's own scope.
+fn expanded_live<'b, 'a>(
+    alloc: Global,
+    file: Procedures<'b, 'a>,
+    live: &'b [Live<'a>],
+    made: Made,
+) -> Result<Made, Memory>
+    requires { AreReady file }
+    ensures { IfOk result (λ m. own_held file.entry.procs.now m
+        ≡ expanded (live_block live.now) (own_held file.entry.procs.now made)) }
+{
+    let mut waiting = Vec::new(alloc);
+    waits_for(&mut waiting, live)?;
+    let mut held = Held {
+        scopes: Vec::new(alloc),
+        made,
+    };
+    let own = Scope {
+        callable: file.procs.len(),
+        names: Naming::Own,
+    };
+    scoped(file.procs, &mut held, own)?;
+    expand(alloc, file, &mut waiting, &mut held)?;
+    let Held { scopes, made } = held;
+    drop(scopes);
+    Ok(made)
+}
+
+// What is made of a file's own statements, with no call left. They are copied.
+fn expanded_copy<'a>(
+    alloc: Global,
+    procs: &'a [Proc],
+    numbers: &Numbers<'a>,
+    sizes: &[u64],
+    body: &'a [PStmt],
+) -> Result<Made, Memory>
+    requires numbers { AreNumbered (map procedure_of procs.now) (found_under numbers.now) }
+    requires sizes { HasSizes (map procedure_of procs.now) sizes.now }
+    ensures { IfOk result (λ m. own_held procs.now m
+        ≡ with_made (held_start (map procedure_of procs.now)) (inlined_body (bare_file procs.now body.now))) }
+{
+    let bodies = live_bodies(alloc, procs, numbers, sizes)?;
+    let live = live_statements(alloc, procs, numbers, sizes, procs.len(), body)?;
+    let file = Procedures {
+        procs,
+        numbers,
+        bodies: bodies.as_slice(),
+    };
+    let nothing = begun(alloc, procs)?;
+    let made = expanded_live(alloc, file, live.as_slice(), nothing)?;
+    Ok(made)
+}
+
 /// The program of a file with procedures, in which each call is replaced, outermost first, by an assignment of each
 /// scalar argument, an assignment of 0 to each local, and the procedure's statements. The scalar parameters and locals
 /// of the calls become new variables `__0`, `__1` and so on, in the order of the calls in the program, declared after
@@ -150,9 +243,29 @@ fn finish(alloc: Global, decls: Vec<Decl>, made: Made) -> Result<Program, Memory
 /// new variables. The errors come in the order of [`InlineError`]'s variants, those of procedures procedure by
 /// procedure, then those of calls call by call, and the first is returned. `Memory` says nothing about the file.
 ///
+/// The file's expressions are copied into the program. [`inline_owned`] makes the same program of a file that isn't needed
+/// afterwards, with less memory.
+pub fn inline(alloc: Global, f: &ProcFile) -> Result<Program, InlineError>
+    requires plain { ArePlain f.now.decls.items }
+    ensures inlined { IfOk result (λ p. source_of p ≡ inlined_file (file_of f.now)) }
+    ensures faultless { OnOk result ((e : InlineError) → IsFirstCallFault (file_of f.now) e → ⊥) }
+    ensures meaning { IfOk result (λ p. KeepsMeaning (file_of f.now) (source_of p)) }
+    ensures refused { IfErr result (λ e. ExplainsInlining e (file_of f.now)) }
+{
+    let procs = f.procs.as_slice();
+    let body = f.body.as_slice();
+    let Judged { numbers, sizes } = judge(alloc, procs, body)?;
+    let made = expanded_copy(alloc, procs, &numbers, sizes.as_slice(), body)?;
+    let decls = copied(alloc, f.decls.as_slice())?;
+    let program = finish(alloc, decls, made)?;
+    Ok(program)
+}
+
+/// The program of a file with procedures, as [`inline`] makes it, of a file that isn't needed afterwards.
+///
 /// The expressions of the file's own statements, and the arguments of its own calls, are moved into the program. Those of
 /// procedures are copied at each call.
-pub fn inline(alloc: Global, f: ProcFile) -> Result<Program, InlineError>
+pub fn inline_owned(alloc: Global, f: ProcFile) -> Result<Program, InlineError>
     requires plain { ArePlain f.decls.items }
     ensures inlined { IfOk result (λ p. source_of p ≡ inlined_file (file_of f)) }
     ensures faultless { OnOk result ((e : InlineError) → IsFirstCallFault (file_of f) e → ⊥) }

@@ -26,6 +26,6 @@ mod stepping;
 pub mod trees;
 
 pub use errors::InlineError;
-pub use inlining::inline;
+pub use inlining::{inline, inline_owned};
 pub use scopes::is_hidden;
 pub use trees::{PStmt, Param, Proc, ProcFile};

@@ -1,13 +1,13 @@
-ghost use Rattle.std.specs.Prelude.{◌≡◌, ◌≤◌, IfOk, length, map, option_map, reverse, take};
+ghost use Rattle.std.specs.Prelude.{◌≡◌, ◌+◌, ◌≤◌, ◌++◌, ◌∷◌, [], IfOk, OnOk, length, map, option_map, reverse, take};
 ghost use Rattle.gr_base.specs.Prelude.{found_under};
 ghost use Rattle.src_procs.specs.Measured.{HasSizes, sizes_by};
 ghost use Rattle.src_procs.specs.Numbered.{AreNumbered, by_number};
-ghost use Rattle.src_procs.specs.Pruned.{ArePruned, SameCode, behind, kept, pruned, with_first};
+ghost use Rattle.src_procs.specs.Pruned.{ArePruned, IsPruned, SameCode, behind, kept, pruned, with_first};
 ghost use Rattle.src_procs.specs.Seen.{block_of_all, procedure_of, statement_of, trees_of};
-ghost use Rattle.src_procs.specs.Trees.{Block};
-ghost use Rattle.src_procs.specs.Views.{bodies_of, live_block, live_of, trees_seen};
+ghost use Rattle.src_procs.specs.Trees.{Block, Call};
+ghost use Rattle.src_procs.specs.Views.{bodies_of, body_of, live_block, live_of, trees_seen};
 
-use crate::handing::come_down;
+use crate::handing::{add, come_down};
 use crate::needed::{Body, left_of};
 use crate::own_names::Numbers;
 use crate::sizes::call_size;
@@ -33,7 +33,7 @@ fn each<'a>(alloc: Global, arguments: &'a [Expr]) -> Result<Vec<&'a Expr>, Memor
 {
     let mut all = Vec::new(alloc);
     for argument in arguments {
-        all.push(argument)?;
+        add(&mut all, argument)?;
     }
     Ok(all)
 }
@@ -53,8 +53,28 @@ fn with_live<'a>(mut all: Vec<Live<'a>>, live: Option<Live<'a>>) -> Result<Vec<L
     }
 }
 
-#[cycle(live)]
+// A call, unless it is replaced by nothing.
 #[tactic(auto, using(crate::proofs::Pruning::dead_call, crate::proofs::Pruning::live_call))]
+fn live_call<'a>(
+    alloc: Global,
+    procs: &[Proc],
+    numbers: &Numbers<'a>,
+    sizes: &[u64],
+    callable: usize,
+    name: &'a Name,
+    arguments: &'a [Expr],
+) -> Result<Option<Live<'a>>, Memory>
+    ensures { IfOk result (λ l. option_map live_of l
+        ≡ kept (sizes_by sizes.now (by_number (map procedure_of procs.now) callable (found_under numbers.now)))
+        (Call name.now (trees_of arguments.now))) }
+{
+    if call_size(procs, numbers, sizes, callable, name, arguments) == 0 {
+        return Ok(None);
+    }
+    Ok(Some(Live::Call(name, each(alloc, arguments)?)))
+}
+
+#[cycle(live)]
 fn live_one<'a>(
     alloc: Global,
     procs: &[Proc],
@@ -72,19 +92,28 @@ fn live_one<'a>(
         PStmt::Put(name, index, value) => Ok(Some(Live::Put(name, index, value))),
         PStmt::If(guard, first, second) => {
             let first = live_all(alloc, procs, numbers, sizes, callable, first.as_slice())?;
-            let second = live_all(alloc, procs, numbers, sizes, callable, second.as_slice())?;
-            Ok(Some(Live::If(guard, first, second)))
+            match live_all(alloc, procs, numbers, sizes, callable, second.as_slice()) {
+                Ok(second) => Ok(Some(Live::If(guard, first, second))),
+                Err(error) => {
+                    drop(first);
+                    Err(error)
+                }
+            }
         }
         PStmt::While(guard, body) => {
             let body = live_all(alloc, procs, numbers, sizes, callable, body.as_slice())?;
             Ok(Some(Live::While(guard, body)))
         }
         PStmt::Call(name, arguments) => {
-            let arguments = arguments.as_slice();
-            if call_size(procs, numbers, sizes, callable, name, arguments) == 0 {
-                return Ok(None);
-            }
-            Ok(Some(Live::Call(name, each(alloc, arguments)?)))
+            live_call(
+                alloc,
+                procs,
+                numbers,
+                sizes,
+                callable,
+                name,
+                arguments.as_slice(),
+            )
         }
     }
 }
@@ -112,7 +141,7 @@ fn live_all<'a>(
 }
 
 // Statements without the calls that add nothing, where the first `callable` procedures can be called.
-fn live_statements<'a>(
+pub(crate) fn live_statements<'a>(
     alloc: Global,
     procs: &[Proc],
     numbers: &Numbers<'a>,
@@ -129,8 +158,38 @@ fn live_statements<'a>(
     Ok(all)
 }
 
-// What is left of each procedure, without the calls that add nothing. One that is one call comes down to what that comes down
-// to, so that a chain of such procedures is one call.
+// What is left of procedure number `k`, where `bodies` are what is left of those before it. A procedure that is one call
+// comes down to what that comes down to, so that a chain of such procedures is one call.
+fn live_body<'a>(
+    alloc: Global,
+    procs: &'a [Proc],
+    numbers: &Numbers<'a>,
+    sizes: &[u64],
+    bodies: &[Body<'a>],
+    k: usize,
+    p: &'a Proc,
+) -> Result<Body<'a>, Memory>
+    requires numbers { AreNumbered (map procedure_of procs.now) (found_under numbers.now) }
+    requires sizes { HasSizes (map procedure_of procs.now) sizes.now }
+    requires bodies { ArePruned (map procedure_of procs.now) (bodies_of bodies.now) }
+    requires all { length bodies.now ≡ k }
+    ensures { IfOk result (λ b. IsPruned (reverse (take k (map procedure_of procs.now))) (procedure_of p.now) (body_of b)) }
+{
+    let body = live_statements(alloc, procs, numbers, sizes, k, p.body.as_slice())?;
+    let less = come_down(alloc, procs, numbers, bodies, k, body)?;
+    left_of(alloc, procs, numbers, bodies, k, p, less)
+}
+
+// One body more.
+fn add_body<'a>(bodies: &mut Vec<Body<'a>>, body: Body<'a>) -> Result<(), Memory>
+    ensures items { OnOk result (bodies.new.items ≡ bodies.old.items ++ body.entry ∷ []) }
+    ensures len { OnOk result (length bodies.new.items ≡ length bodies.old.items + 1) }
+{
+    bodies.push(body)?;
+    Ok(())
+}
+
+// What is left of each procedure, without the calls that add nothing.
 pub(crate) fn live_bodies<'a>(
     alloc: Global,
     procs: &'a [Proc],
@@ -144,10 +203,8 @@ pub(crate) fn live_bodies<'a>(
 {
     let mut bodies = Vec::new(alloc);
     for (i, p) in procs.iter().enumerate() {
-        let body = live_statements(alloc, procs, numbers, sizes, i, p.body.as_slice())?;
-        let less = come_down(alloc, procs, numbers, bodies.as_slice(), i, body)?;
-        let left = left_of(alloc, procs, numbers, bodies.as_slice(), i, p, less)?;
-        bodies.push(left)?;
+        let left = live_body(alloc, procs, numbers, sizes, bodies.as_slice(), i, p)?;
+        add_body(&mut bodies, left)?;
     }
     Ok(bodies)
 }

@@ -13,6 +13,7 @@ ghost use Rattle.src_procs.specs.Needed as spec;
 use crate::finding::called;
 use crate::live::Live;
 use crate::own_names::{Numbers, add_name, has_bytes};
+use crate::stepping::Procedures;
 use crate::trees::{Param, Proc};
 use gr_base::Memory;
 use gr_word::Name;
@@ -68,6 +69,30 @@ fn mark_guard<'a>(needed: &mut Numbers<'a>, guard: &'a Guard) -> Result<(), Memo
     mark(needed, &guard.right)
 }
 
+// The names of an assignment to a variable are needed.
+fn mark_set<'a>(needed: &mut Numbers<'a>, name: &'a Name, value: &'a Expr) -> Result<(), Memory>
+    ensures { OnOk result (found_under needed.new
+        ≡ spec.marked (numbered (found_under needed.old) name.now 0) (expr_tree value.now)) }
+{
+    mark_name(needed, name)?;
+    mark(needed, value)
+}
+
+// The names of an assignment to an element are needed.
+fn mark_element<'a>(
+    needed: &mut Numbers<'a>,
+    name: &'a Name,
+    index: &'a Expr,
+    value: &'a Expr,
+) -> Result<(), Memory>
+    ensures { OnOk result (found_under needed.new
+        ≡ spec.marked (spec.marked (numbered (found_under needed.old) name.now 0) (expr_tree index.now)) (expr_tree value.now)) }
+{
+    mark_name(needed, name)?;
+    mark(needed, index)?;
+    mark(needed, value)
+}
+
 // The argument at a place, if there is one.
 #[tactic(auto, using(crate::proofs::NeededNames::argument_there, crate::proofs::NeededNames::no_argument))]
 pub(crate) fn argument_at<'a>(arguments: &[&'a Expr], at: usize) -> Option<&'a Expr>
@@ -104,91 +129,71 @@ fn mark_kept<'a>(
     Ok(())
 }
 
-fn mark_call<'a>(
-    procs: &[Proc],
-    numbers: &Numbers<'a>,
-    bodies: &[Body<'a>],
+fn mark_call<'b, 'a>(
+    file: Procedures<'b, 'a>,
     callable: usize,
     needed: &mut Numbers<'a>,
     name: &'a Name,
     arguments: &[&'a Expr],
 ) -> Result<(), Memory>
     ensures { OnOk result (found_under needed.new ≡ spec.marked_kept (found_under needed.old)
-        (spec.kept_in (bodies_of bodies.now) (by_number (map procedure_of procs.now) callable (found_under numbers.now) name.now))
+        (spec.kept_in (bodies_of file.entry.bodies.now)
+        (by_number (map procedure_of file.entry.procs.now) callable (found_under file.entry.numbers.now) name.now))
         (trees_seen arguments.now)) }
 {
-    match called(procs, numbers, callable, name.bytes()) {
+    match called(file.procs, file.numbers, callable, name.bytes()) {
         None => Ok(()),
         Some(k) => {
-            if k >= bodies.len() {
+            if k >= file.bodies.len() {
                 return Ok(());
             }
-            mark_kept(needed, bodies[k].kept.as_slice(), arguments)
+            mark_kept(needed, file.bodies[k].kept.as_slice(), arguments)
         }
     }
 }
 
 #[cycle(needed)]
-fn mark_one<'a>(
-    procs: &[Proc],
-    numbers: &Numbers<'a>,
-    bodies: &[Body<'a>],
+fn mark_one<'b, 'a>(
+    file: Procedures<'b, 'a>,
     callable: usize,
     needed: &mut Numbers<'a>,
     s: &Live<'a>,
 ) -> Result<(), Memory>
-    ensures { OnOk result (found_under needed.new ≡ spec.marked_one (spec.kept_by (bodies_of bodies.now)
-        (by_number (map procedure_of procs.now) callable (found_under numbers.now)))
+    ensures { OnOk result (found_under needed.new ≡ spec.marked_one (spec.kept_by (bodies_of file.entry.bodies.now)
+        (by_number (map procedure_of file.entry.procs.now) callable (found_under file.entry.numbers.now)))
         (found_under needed.old) (live_of s.now)) }
 {
     match s {
-        Live::Set(name, value) => {
-            mark_name(needed, *name)?;
-            mark(needed, *value)
-        }
-        Live::Put(name, index, value) => {
-            mark_name(needed, *name)?;
-            mark(needed, *index)?;
-            mark(needed, *value)
-        }
+        Live::Set(name, value) => mark_set(needed, *name, *value),
+        Live::Put(name, index, value) => mark_element(needed, *name, *index, *value),
         Live::If(guard, first, second) => {
             mark_guard(needed, *guard)?;
-            mark_all(procs, numbers, bodies, callable, needed, first.as_slice())?;
-            mark_all(procs, numbers, bodies, callable, needed, second.as_slice())
+            mark_all(file, callable, needed, first.as_slice())?;
+            mark_all(file, callable, needed, second.as_slice())
         }
         Live::While(guard, body) => {
             mark_guard(needed, *guard)?;
-            mark_all(procs, numbers, bodies, callable, needed, body.as_slice())
+            mark_all(file, callable, needed, body.as_slice())
         }
         Live::Call(name, arguments) => {
-            mark_call(
-                procs,
-                numbers,
-                bodies,
-                callable,
-                needed,
-                *name,
-                arguments.as_slice(),
-            )
+            mark_call(file, callable, needed, *name, arguments.as_slice())
         }
     }
 }
 
 #[cycle(needed)]
-fn mark_all<'a>(
-    procs: &[Proc],
-    numbers: &Numbers<'a>,
-    bodies: &[Body<'a>],
+fn mark_all<'b, 'a>(
+    file: Procedures<'b, 'a>,
     callable: usize,
     needed: &mut Numbers<'a>,
     statements: &[Live<'a>],
 ) -> Result<(), Memory>
-    ensures { OnOk result (found_under needed.new ≡ spec.marked_all (spec.kept_by (bodies_of bodies.now)
-        (by_number (map procedure_of procs.now) callable (found_under numbers.now)))
+    ensures { OnOk result (found_under needed.new ≡ spec.marked_all (spec.kept_by (bodies_of file.entry.bodies.now)
+        (by_number (map procedure_of file.entry.procs.now) callable (found_under file.entry.numbers.now)))
         (found_under needed.old) (live_block statements.now)) }
 {
     for statement in statements {
-        mark_one(procs, numbers, bodies, callable, needed, statement)?;
+        mark_one(file, callable, needed, statement)?;
     }
     Ok(())
 }
@@ -219,7 +224,6 @@ fn keep<'a>(
 }
 
 // The parameters that a call binds.
-#[tactic(auto, using(crate::proofs::NeededNames::kept_one))]
 fn kept_parameters<'a>(
     alloc: Global,
     needed: &Numbers<'a>,
@@ -252,15 +256,13 @@ pub(crate) fn left_of<'a>(
         (procedure_of p.now).body }
     ensures { IfOk result (λ b. IsPruned (reverse (take k (map procedure_of procs.now))) (procedure_of p.now) (body_of b)) }
 {
-    let mut needed: Numbers<'a> = BTreeMap::new(alloc);
-    mark_all(
+    let file = Procedures {
         procs,
         numbers,
         bodies,
-        k,
-        &mut needed,
-        statements.as_slice(),
-    )?;
+    };
+    let mut needed: Numbers<'a> = BTreeMap::new(alloc);
+    mark_all(file, k, &mut needed, statements.as_slice())?;
     let kept = kept_parameters(alloc, &needed, p.params.as_slice())?;
     Ok(Body {
         statements,

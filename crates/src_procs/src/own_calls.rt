@@ -8,7 +8,7 @@ ghost use Rattle.src_procs.specs.Trees.{Call};
 ghost use Rattle.src_procs.specs.Views.{binding_of, held_of, own_held, unbound};
 ghost use Rattle.src_procs.specs.Expanding as spec;
 
-use crate::binding::{alias, new_name, with_alias, with_locals, with_new};
+use crate::binding::{alias, next_name, with_alias, with_locals, with_new};
 use crate::expanding::{Held, Made, waits_for_call};
 use crate::finding::called;
 use crate::kept_names::own_expr;
@@ -47,7 +47,7 @@ fn with_own_value<'a>(
     ensures { OnOk result (binding_of bounds.new made.new
         ≡ spec.with_new (binding_of bounds.old made.old) label name.now (renamed kept_name (expr_tree argument))) }
 {
-    match new_name(alloc, made.labels.len() as u64) {
+    match next_name(alloc, made) {
         Ok(stands) => {
             let assigned = own_assignment(alloc, &stands, argument)?;
             with_new(made, bounds, label, name, stands, assigned)

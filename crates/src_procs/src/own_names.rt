@@ -1,4 +1,4 @@
-ghost use Rattle.std.specs.Prelude.{◌≡◌, ◌++◌, ◌&&◌, IfOk, OnOk, map, option_map, is_some};
+ghost use Rattle.std.specs.Prelude.{◌≡◌, ◌++◌, ◌∷◌, ◌&&◌, [], IfOk, OnOk, map, option_map, is_some};
 ghost use Rattle.std.specs.Option.{option_or};
 ghost use Rattle.gr_base.specs.Prelude.{found_under};
 ghost use Rattle.src_tree.specs.Prelude.{shown_place, expr_tree, test_of};
@@ -55,6 +55,14 @@ pub(crate) fn parameter_name<'a>(param: &'a Param) -> &'a [u8]
     }
 }
 
+// One name more.
+fn add_bytes<'a>(names: &mut Vec<&'a [u8]>, name: &'a [u8]) -> Result<(), Memory>
+    ensures { OnOk result (names_seen names.new.items ≡ names_seen names.old.items ++ name.now ∷ []) }
+{
+    names.push(name)?;
+    Ok(())
+}
+
 // Names, followed by those of parameters.
 fn with_parameters<'a>(
     mut names: Vec<&'a [u8]>,
@@ -64,7 +72,7 @@ fn with_parameters<'a>(
         ≡ names_seen names.entry.items ++ map causes.parameter_name (map parameter_of params.now)) }
 {
     for param in params {
-        names.push(parameter_name(param))?;
+        add_bytes(&mut names, parameter_name(param))?;
     }
     Ok(names)
 }
@@ -74,7 +82,7 @@ fn with_locals<'a>(mut names: Vec<&'a [u8]>, locals: &'a [Decl]) -> Result<Vec<&
     ensures { IfOk result (λ r. names_seen r.items ≡ names_seen names.entry.items ++ map spec.local_name locals.now) }
 {
     for local in locals {
-        names.push(local.name.bytes())?;
+        add_bytes(&mut names, local.name.bytes())?;
     }
     Ok(names)
 }
@@ -131,15 +139,28 @@ fn knows_guard<'a>(names: &Numbers<'a>, guard: &'a Guard) -> bool
     knows(names, &guard.left) && knows(names, &guard.right)
 }
 
+// Whether the names of an assignment to a variable are known.
+fn knows_set<'a>(names: &Numbers<'a>, name: &'a Name, value: &'a Expr) -> bool
+    ensures { result ≡ (is_some (found_under names.now name.now) && spec.knows (found_under names.now) (expr_tree value.now)) }
+{
+    is_known(names, name) && knows(names, value)
+}
+
+// Whether the names of an assignment to an element are known.
+fn knows_element<'a>(names: &Numbers<'a>, name: &'a Name, index: &'a Expr, value: &'a Expr) -> bool
+    ensures { result ≡ (is_some (found_under names.now name.now) && spec.knows (found_under names.now) (expr_tree index.now)
+        && spec.knows (found_under names.now) (expr_tree value.now)) }
+{
+    is_known(names, name) && knows(names, index) && knows(names, value)
+}
+
 #[cycle(known)]
 fn knows_statement<'a>(names: &Numbers<'a>, s: &'a PStmt) -> bool
     ensures { result ≡ spec.knows_statement (found_under names.now) (statement_of s.now) }
 {
     match s {
-        PStmt::Set(name, value) => is_known(names, name) && knows(names, value),
-        PStmt::Put(name, index, value) => {
-            is_known(names, name) && knows(names, index) && knows(names, value)
-        }
+        PStmt::Set(name, value) => knows_set(names, name, value),
+        PStmt::Put(name, index, value) => knows_element(names, name, index, value),
         PStmt::If(guard, first, second) => {
             knows_guard(names, guard)
                 && knows_block(names, first.as_slice())

@@ -29,13 +29,20 @@ pub(crate) enum Own {
     EndLoop(Guard),
 }
 
+// One thing more is to be done, before all others.
+fn wait(waiting: &mut Vec<Own>, next: Own) -> Result<(), Memory>
+    ensures { OnOk result (owns_all waiting.new.items ≡ own_of next ∷ owns_all waiting.old.items) }
+{
+    waiting.push(next)?;
+    Ok(())
+}
+
 // The statements that are left of a block are to be done, the next of which is the last.
 fn waits_for_rest(waiting: &mut Vec<Own>, left: Vec<PStmt>) -> Result<(), Memory>
     ensures { OnOk result (owns_all waiting.new.items
         ≡ Rest (block_of_all (reverse left.items)) ∷ owns_all waiting.old.items) }
 {
-    waiting.push(Own::Rest(left))?;
-    Ok(())
+    wait(waiting, Own::Rest(left))
 }
 
 // The statements of a block are to be done.
@@ -43,8 +50,17 @@ fn waits_for(waiting: &mut Vec<Own>, mut block: Vec<PStmt>) -> Result<(), Memory
     ensures { OnOk result (owns_all waiting.new.items ≡ Rest (block_of_all block.items) ∷ owns_all waiting.old.items) }
 {
     block.reverse();
-    waiting.push(Own::Rest(block))?;
-    Ok(())
+    waits_for_rest(waiting, block)
+}
+
+// The second block of a choice is to be done, in a block that opens first.
+fn waits_for_second(waiting: &mut Vec<Own>, guard: Guard, second: Vec<PStmt>) -> Result<(), Memory>
+    ensures { OnOk result (owns_all waiting.new.items
+        ≡ Open ∷ Rest (block_of_all second.items) ∷ EndChoice (test_of guard) ∷ owns_all waiting.old.items) }
+{
+    wait(waiting, Own::EndChoice(guard))?;
+    waits_for(waiting, second)?;
+    wait(waiting, Own::Open)
 }
 
 // The blocks of a choice are to be done, the second in a block that opens after the first.
@@ -58,9 +74,7 @@ fn waits_for_choice(
         ≡ Rest (block_of_all first.items) ∷ Open ∷ Rest (block_of_all second.items) ∷ EndChoice (test_of guard)
         ∷ owns_all waiting.old.items) }
 {
-    waiting.push(Own::EndChoice(guard))?;
-    waits_for(waiting, second)?;
-    waiting.push(Own::Open)?;
+    waits_for_second(waiting, guard, second)?;
     waits_for(waiting, first)
 }
 
@@ -69,7 +83,7 @@ fn waits_for_loop(waiting: &mut Vec<Own>, guard: Guard, body: Vec<PStmt>) -> Res
     ensures { OnOk result (owns_all waiting.new.items
         ≡ Rest (block_of_all body.items) ∷ EndLoop (test_of guard) ∷ owns_all waiting.old.items) }
 {
-    waiting.push(Own::EndLoop(guard))?;
+    wait(waiting, Own::EndLoop(guard))?;
     waits_for(waiting, body)
 }
 
@@ -244,10 +258,13 @@ fn rest<'b, 'a>(
 {
     match statements.pop() {
         None => Ok(()),
-        Some(s) => {
-            waits_for_rest(waiting, statements)?;
-            statement(alloc, file, sizes, waiting, s, made)
-        }
+        Some(s) => match waits_for_rest(waiting, statements) {
+            Ok(_) => statement(alloc, file, sizes, waiting, s, made),
+            Err(error) => {
+                drop(s);
+                Err(error)
+            }
+        },
     }
 }
 

@@ -1,12 +1,12 @@
 ghost use Rattle.std.specs.Prelude.{◌≡◌, IfOk, slice_index};
 ghost use Rattle.gr_base.specs.Prelude.{found_under};
-ghost use Rattle.src_tree.specs.Prelude.{expr_tree, test_of};
+ghost use Rattle.src_tree.specs.Prelude.{Element, Operation, expr_tree, test_of};
 ghost use Rattle.src_procs.specs.Inlined.{is_hidden, kept_name, no_name, renamed, renamed_test};
 ghost use Rattle.src_procs.specs.Expanding.{looked_up};
 ghost use Rattle.src_procs.specs.Views.{names_of};
 
 use gr_base::Memory;
-use gr_word::Name;
+use gr_word::{Name, Op};
 use src_tree::{Expr, Guard};
 use std::alloc::Global;
 use std::collections::BTreeMap;
@@ -78,6 +78,23 @@ pub(crate) fn new_name_of<'a>(
     }
 }
 
+// An element of an array, of its parts.
+fn element(alloc: Global, name: Name, index: Expr) -> Result<Expr, Memory>
+    ensures { IfOk result (λ r. expr_tree r ≡ Element name (expr_tree index)) }
+{
+    let index = Box::new(alloc, index)?;
+    Ok(Expr::Item(name, index))
+}
+
+// An operation, of its parts.
+fn operation(alloc: Global, op: Op, left: Expr, right: Expr) -> Result<Expr, Memory>
+    ensures { IfOk result (λ r. expr_tree r ≡ Operation op (expr_tree left) (expr_tree right)) }
+{
+    let left = Box::new(alloc, left)?;
+    let right = Box::new(alloc, right)?;
+    Ok(Expr::Bin(op, left, right))
+}
+
 pub(crate) fn renamed<'a>(alloc: Global, names: &Naming<'a>, e: &Expr) -> Result<Expr, Memory>
     ensures { IfOk result (λ r. expr_tree r ≡ renamed (names_of names.now) (expr_tree e.now)) }
 {
@@ -86,13 +103,18 @@ pub(crate) fn renamed<'a>(alloc: Global, names: &Naming<'a>, e: &Expr) -> Result
         Expr::Var(name) => Ok(Expr::Var(new_name_of(alloc, names, name)?)),
         Expr::Item(name, index) => {
             let name = new_name_of(alloc, names, name)?;
-            let index = Box::new(alloc, renamed(alloc, names, index)?)?;
-            Ok(Expr::Item(name, index))
+            let index = renamed(alloc, names, index)?;
+            element(alloc, name, index)
         }
         Expr::Bin(op, left, right) => {
-            let left = Box::new(alloc, renamed(alloc, names, left)?)?;
-            let right = Box::new(alloc, renamed(alloc, names, right)?)?;
-            Ok(Expr::Bin(*op, left, right))
+            let left = renamed(alloc, names, left)?;
+            match renamed(alloc, names, right) {
+                Ok(right) => operation(alloc, *op, left, right),
+                Err(error) => {
+                    drop(left);
+                    Err(error)
+                }
+            }
         }
     }
 }

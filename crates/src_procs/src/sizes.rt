@@ -136,6 +136,17 @@ pub(crate) fn block_size<'a>(
     block_count(procs, numbers, sizes, callable, statements)
 }
 
+// How many statements the body of procedure number `k` is replaced by, up to 2^64 - 1, from the sizes of those before it.
+fn body_size<'a>(procs: &[Proc], numbers: &Numbers<'a>, sizes: &[u64], k: usize, p: &Proc) -> u64
+    requires numbers { AreNumbered (map procedure_of procs.now) (found_under numbers.now) }
+    requires sizes { AreSizes (map procedure_of procs.now) sizes.now }
+    requires all { length sizes.now ≡ k }
+    ensures { result ≡ shown_number
+        (size_of_all (sizes_of (reverse (take k (map procedure_of procs.now)))) (procedure_of p.now).body) }
+{
+    block_size(procs, numbers, sizes, k, p.body.as_slice())
+}
+
 // How many statements the body of each procedure is replaced by, up to 2^64 - 1.
 pub(crate) fn body_sizes<'a>(
     alloc: Global,
@@ -148,7 +159,7 @@ pub(crate) fn body_sizes<'a>(
 {
     let mut sizes = Vec::new(alloc);
     for (i, p) in procs.iter().enumerate() {
-        let size = block_size(procs, numbers, sizes.as_slice(), i, p.body.as_slice());
+        let size = body_size(procs, numbers, sizes.as_slice(), i, p);
         sizes.push(size)?;
     }
     Ok(sizes)

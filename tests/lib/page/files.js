@@ -9,11 +9,11 @@ const SOURCE = 'public int x;\nx = 1;\n';
 const ASSEMBLY = '.object 1 3 1 70 2 3\n.bank 4 634\n.bank 4 662\nhalt\n';
 
 const TEXTS = [
-  { name: 'marked.gr', bytes: MARK + SOURCE, says: 'Line 1, column 1: no token begins here' },
+  { name: 'marked.gr', bytes: MARK + SOURCE, says: 'Line 1, column 1: unexpected character U+feff' },
   { name: 'marked.asm', bytes: MARK + ASSEMBLY, says: 'Line 1, column 1: the line has a byte order mark' },
   { name: 'returns.asm', bytes: ASSEMBLY.replace(/\n/g, '\r\n'), says: 'Line 1, column 21: the line has a carriage return' },
   { name: 'returns.gr', bytes: SOURCE.replace(/\n/g, '\r\n'), says: 'Accepted' },
-  { name: 'latin.gr', bytes: Buffer.from('public int x;\n// \xe4\nx = \xe4;\n', 'latin1'), says: 'no token begins here' },
+  { name: 'latin.gr', bytes: Buffer.from('public int x;\n// \xe4\nx = \xe4;\n', 'latin1'), says: 'Line 3, column 5: unexpected ' },
   { name: 'latin.asm', bytes: Buffer.from(`${ASSEMBLY}; \xe4\n`, 'latin1'), says: 'The assembly text has an error' },
 ];
 

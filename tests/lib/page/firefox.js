@@ -23,7 +23,7 @@ async function edits(user) {
   await user.browser.insert('$');
   user.says(await user.isStale(), 'Firefox: an edit makes the result stale', await user.textOf('stale'));
   const told = await user.presses('check');
-  user.says(told.includes('no token begins here') && / \$$/.test(await user.marks()), 'Firefox: a fault is marked',
+  user.says(told.includes('unexpected ') && / \$$/.test(await user.marks()), 'Firefox: a fault is marked',
     `${told} ${await user.marks()}`);
   await user.waits(400);
   await user.opens();

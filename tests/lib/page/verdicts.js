@@ -80,13 +80,13 @@ const CALLS = 'public int x;\nsecret int s;\nproc f(int y[]; secret int a) {\n  
 const PROCEDURE = 'public int x;\n\nproc f(secret int a) {\n    x = a;\n}\nf(x);\n';
 
 const FAULTS = [
-  { what: 'a source', source: 'public int x;\nsecret int s;\n\nx = s;\n', marks: '4 x', says: 'Line 4, column 1: x is public' },
-  { what: 'a token', source: 'public int x;\nx = 1 $ 2;\n', marks: '2 $', says: 'Line 2, column 7: no token begins here' },
-  { what: 'an assembly text', source: INSTRUCTION, marks: '5 hop', says: 'Line 5, column 1: the line has none of the forms' },
+  { what: 'a source', source: 'public int x;\nsecret int s;\n\nx = s;\n', marks: '4 x', says: 'Line 4, column 1: secret value flows into public variable ' },
+  { what: 'a token', source: 'public int x;\nx = 1 $ 2;\n', marks: '2 $', says: 'Line 2, column 7: unexpected ' },
+  { what: 'an assembly text', source: INSTRUCTION, marks: '5 hop', says: 'Line 5, column 1: unknown instruction ' },
   { what: 'a secret symbol in plain memory', source: SYMBOL, marks: '5 .symbol s secret scalar 0 0 0 1', says: '.symbol s' },
   { what: 'a text of 300 variables', source: MANY, marks: '257 v256', says: 'Line 257, column 12: v256 is one variable too many' },
   { what: 'a procedure', source: PROCEDURE, marks: '4 x', says: 'Line 4, column 5: x is a variable of the file' },
-  { what: 'a fault beside procedures', source: CALLS, marks: '7 x', says: 'Line 7, column 1: x is public' },
+  { what: 'a fault beside procedures', source: CALLS, marks: '7 x', says: 'Line 7, column 1: secret value flows into public variable ' },
   { what: 'a rejected object', example: 'leaks.asm', marks: /^9 stw r2 0 r1$/, says: 'Line 9, instruction 4: stw r2 0 r1' },
 ];
 
@@ -118,7 +118,7 @@ async function inputFaults(user) {
   await user.writesInputs('{}', '{"n":1,\n "q":1}');
   const told = await user.presses('run');
   user.says(told.includes('The inputs of run 2 don’t fit') && told.includes('Inputs of run 2, line 2, column 2')
-    && told.includes('no variable has this name'), 'the fault of inputs', told);
+    && told.includes('there is no variable '), 'the fault of inputs', told);
   await user.clicks('#restore');
 }
 
@@ -144,7 +144,7 @@ async function spent(user) {
   await user.writesInputs('{}', '{}');
   await user.writesOption('cycles', '1000');
   const told = await user.presses('run');
-  user.says(told.includes('Run 1 didn’t halt within 1,000 cycles') && told.includes('Allow more under Options')
+  user.says(told.includes('Run 1 didn’t halt within 1,000 cycles') && told.includes('Raise it under Options')
     && !COMMAND.test(told), 'a run that isn’t done within its cycles', told);
   await user.writesOption('cycles', '10000000');
 }

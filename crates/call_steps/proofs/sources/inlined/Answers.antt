@@ -2,23 +2,23 @@ use Rattle.src_procs.specs.Prelude.{file_of}
 use Rattle.call_steps.proofs.FirstSourceFaults.{file-first, call-first}
 use Rattle.call_steps.proofs.sources.inlined.Goals as goal
 
-pub returns-in-Ok-inline-clause-found : goal.returns-in-Ok-inline-clause-found
-returns-in-Ok-inline-clause-found c = record {
+pub returns-in-Ok-inline_owned-clause-found : goal.returns-in-Ok-inline_owned-clause-found
+returns-in-Ok-inline_owned-clause-found c = record {
   tokens = c.in-Ok.ensures.spelled.tokens;
   split = c.in-Ok.ensures.spelled.split;
   of_file = record {
     file = file_of c.in-Ok.file;
     spelled = c.in-Ok.ensures.spelled.is;
-    faultless = c.in-Ok-inline.ensures.faultless;
-    made = c.in-Ok-inline.ensures.inlined;
-    means = c.in-Ok-inline.ensures.meaning;
+    faultless = c.in-Ok-inline_owned.ensures.faultless;
+    made = c.in-Ok-inline_owned.ensures.inlined;
+    means = c.in-Ok-inline_owned.ensures.meaning;
   };
 }
 
-pub returns-in-Err-inline-clause-refused : goal.returns-in-Err-inline-clause-refused
-returns-in-Err-inline-clause-refused c =
-    call-first c.args.text.now (file_of c.in-Ok.file) c.in-Err-inline.fault c.shown_call_fault.result
-    c.shown_call_fault.ensures c.in-Ok.ensures.spelled c.in-Err-inline.ensures.refused
+pub returns-in-Err-inline_owned-clause-refused : goal.returns-in-Err-inline_owned-clause-refused
+returns-in-Err-inline_owned-clause-refused c =
+    call-first c.args.text.now (file_of c.in-Ok.file) c.in-Err-inline_owned.fault c.shown_call_fault.result
+    c.shown_call_fault.ensures c.in-Ok.ensures.spelled c.in-Err-inline_owned.ensures.refused
 
 pub returns-in-Err-clause-refused : goal.returns-in-Err-clause-refused
 returns-in-Err-clause-refused c =

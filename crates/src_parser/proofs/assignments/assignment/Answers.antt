@@ -1,6 +1,6 @@
 use Rattle.std.proofs.Common.{◌-◌, ◌∷◌, drop, length, take, subst}
 use Rattle.std.specs.Prelude.{IfSome}
-use Rattle.src_lexer.specs.declared.tokens.TokenKind.TheVariants.{Word, Assign, LBracket}
+use Rattle.src_lexer.specs.declared.tokens.Kind.TheVariants.{Word}
 use Rattle.src_tree.specs.Prelude.{statement_of}
 use Rattle.src_parser.specs.Prelude.{Adds, token_kinds}
 use Rattle.src_parser.proofs.AssignmentTokens.{assignment_at}
@@ -8,17 +8,9 @@ use Rattle.src_parser.proofs.assignments.assignment.Goals as goal
 
 pub returns-in-Some-clause-adds : goal.returns-in-Some-clause-adds
 returns-in-Some-clause-adds c =
-    assignment_at c.args.tokens.now c.target-item.result c.sign-item.result c.in-Word.name Assign c.in-Some.count
-    (statement_of c.in-Some.statement) c.in-len2-up.len_at_least c.target-item.is c.sign-item.is c.in-Word.is
-    c.in-Assign.is
-    (subst (λ o. IfSome o (λ r. Adds (Word c.in-Word.name ∷ Assign
-    ∷ token_kinds (take r.1 (take (length c.args.tokens.now - 2) (drop 2 c.args.tokens.now)))) (statement_of r.0))) c.in-Some.is c.in_ok-statement-in-Assign.ensures.adds)
-
-pub returns-in-Some-2-clause-adds : goal.returns-in-Some-2-clause-adds
-returns-in-Some-2-clause-adds c =
-    assignment_at c.args.tokens.now c.target-item.result c.sign-item.result c.in-Word.name LBracket
-    c.in-Some-2.count (statement_of c.in-Some-2.statement) c.in-len2-up.len_at_least c.target-item.is c.sign-item.is
-    c.in-Word.is c.in-LBracket.is
-    (subst (λ o. IfSome o (λ r. Adds (Word c.in-Word.name ∷ LBracket
-    ∷ token_kinds (take r.1 (take (length c.args.tokens.now - 2) (drop 2 c.args.tokens.now)))) (statement_of r.0))) c.in-Some-2.is
-    c.in_ok-statement-in-LBracket.ensures.adds)
+    assignment_at c.args.tokens.now c.word-item.result c.sign-item.result c.in-Word.name
+    c.in-Some.count (statement_of c.in-Some.statement) c.in-len2-up.len_at_least c.word-item.is c.sign-item.is
+    c.in-Word.is
+    (subst (λ o. IfSome o (λ r. Adds (Word c.in-Word.name ∷ c.sign-item.result.kind
+    ∷ token_kinds (take r.1 (take (length c.args.tokens.now - 2) (drop 2 c.args.tokens.now)))) (statement_of r.0))) c.in-Some.is
+    c.in_ok-statement-in-len2-up.ensures.adds)

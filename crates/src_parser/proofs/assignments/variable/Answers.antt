@@ -1,6 +1,6 @@
 use Rattle.std.proofs.Common.{take, subst}
 use Rattle.std.specs.Prelude.{IfSome}
-use Rattle.src_lexer.specs.declared.tokens.TokenKind.TheVariants.{Semi}
+use Rattle.src_lexer.specs.declared.tokens.Kind.TheVariants.{Semi}
 use Rattle.src_tree.specs.Prelude.{expr_tree, statement_of}
 use Rattle.src_parser.specs.Prelude.{EndedBy, token_kinds}
 use Rattle.src_parser.proofs.AssignmentTokens.{variable_at}

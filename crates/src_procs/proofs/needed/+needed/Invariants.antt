@@ -5,7 +5,7 @@ use Rattle.src_procs.proofs.needed.+needed.Given as goal
 
 abbrev pub invariant-mark_all-loop-statement : goal.invariant-mark_all-loop-statement
 invariant-mark_all-loop-statement l =
-    marked_all (kept_by (bodies_of l.bodies) (by_number (map procedure_of l.procs) l.callable (found_under l.numbers)))
+    marked_all (kept_by (bodies_of l.file.bodies.now) (by_number (map procedure_of l.file.procs.now) l.callable (found_under l.file.numbers.now)))
     (found_under l.needed) (live_block (drop l.statement-index l.statements))
-    ≡ marked_all (kept_by (bodies_of l.bodies) (by_number (map procedure_of l.procs) l.callable (found_under l.numbers)))
+    ≡ marked_all (kept_by (bodies_of l.file.bodies.now) (by_number (map procedure_of l.file.procs.now) l.callable (found_under l.file.numbers.now)))
     (found_under l.fn.needed) (live_block l.statements)

@@ -6,7 +6,7 @@ use Rattle.src_procs.proofs.needed.mark_call.Goals as goal
 
 pub returns-in-None : goal.returns-in-None
 returns-in-None c =
-    none_marked c.args.procs.now c.args.bodies.now (found_under c.args.needed.now) (trees_seen c.args.arguments.now) _
+    none_marked c.args.file.procs.now c.args.file.bodies.now (found_under c.args.needed.now) (trees_seen c.args.arguments.now) _
     (c.in-None.ensures.found
-    ∙ ap (by_number (map procedure_of c.args.procs.now) c.args.callable (found_under c.args.numbers.now))
+    ∙ ap (by_number (map procedure_of c.args.file.procs.now) c.args.callable (found_under c.args.file.numbers.now))
     c.bytes.ensures.bytes)
