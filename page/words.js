@@ -22,10 +22,10 @@ const WORDS = {
       "secret"
     ],
     "keywords": [
+      ".note",
       ".object",
       ".bank",
-      ".symbol",
-      ".note"
+      ".symbol"
     ],
     "procedure": null
   }
