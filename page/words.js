@@ -23,9 +23,9 @@ const WORDS = {
     ],
     "keywords": [
       ".object",
+      ".note",
       ".bank",
-      ".symbol",
-      ".note"
+      ".symbol"
     ],
     "procedure": null
   }

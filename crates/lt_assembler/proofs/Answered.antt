@@ -2,7 +2,7 @@
 use Rattle.std.proofs.Common.{◌≡◌, ◌≢◌, ℕ, List, Result, Ok, Err, IfOk, MatchResult, refl, sym, ◌∙◌}
 use Rattle.lt_isa.specs.Prelude.{Parts}
 use Rattle.lt_assembler.specs.declared.errors.AsmError.{AsmError}
-use Rattle.lt_assembler.specs.declared.errors.AsmError.TheVariants.{BadLine, BadNumber, UnknownName, TwiceNamed, OverLimit, Memory}
+use Rattle.lt_assembler.specs.declared.errors.AsmError.TheVariants.{Memory}
 use Rattle.lt_assembler.specs.Prelude.{Finds, assembled, SpellsInText}
 use Rattle.gr_base.proofs.Results.{ok_is}
 use Rattle.lt_assembler.proofs.Spelled.{assembled-spells}

@@ -11,7 +11,7 @@ use Rattle.std.proofs.lemmas.Map.Text.{is_eq-slice_cmp}
 use Rattle.gr_base.specs.Prelude.{EachAfter}
 use Rattle.gr_base.proofs.ListTests.{bytes_eq-own}
 use Rattle.lt_isa.specs.declared.instructions.Instr.{Instr}
-use Rattle.lt_assembler.specs.Prelude.{Word, Use, Labels, Draft, place_of, with_label, uses_of, Item, Nothing, AnObject, ABank, ASymbol, ALabel, ANote, AnInstruction, Stands, StagesInOrder, place_after, gathered, profile_in, bank_in, symbol_in, note_in, label_in}
+use Rattle.lt_assembler.specs.Prelude.{Word, Use, Labels, Draft, place_of, with_label, uses_of, Item, AnObject, ABank, ASymbol, ALabel, ANote, AnInstruction, Stands, StagesInOrder, place_after, gathered, profile_in, bank_in, symbol_in, note_in, label_in}
 use Rattle.lt_assembler.proofs.Added.{coded_in, added, adds, AreFresh, stage_in, IsHeaded, IsHeaded-added, stage-added, stage-is_none}
 use Rattle.lt_assembler.proofs.NamedWords.{same_word}
 use Rattle.lt_assembler.proofs.Splitting.{on_test}

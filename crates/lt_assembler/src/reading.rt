@@ -1,8 +1,8 @@
-ghost use Rattle.std.specs.Prelude.{◌≡◌, ◌∷◌, map, IfOk};
+ghost use Rattle.std.specs.Prelude.{◌≡◌, ◌∷◌, if◌then◌else◌, map, codes, bytes_eq, IfOk};
 ghost use Rattle.lt_assembler.specs.Faults.{Becomes};
 ghost use Rattle.lt_assembler.specs.Lines.{lines};
 ghost use Rattle.lt_assembler.specs.LineParts.{first_line, behind_line};
-ghost use Rattle.lt_assembler.specs.Reading.{label_name, label_or_code, by_first_word, line_read, instruction_follows};
+ghost use Rattle.lt_assembler.specs.Reading.{label_name, label_or_code, note_line, by_first_word, line_read, instruction_follows};
 ghost use Rattle.lt_assembler.specs.Seen.{draft_of};
 
 use crate::code_lines::{code_line, label_line, label_name, note_line};
@@ -32,6 +32,27 @@ fn label_or_code<'a>(
     }
 }
 
+/// Reads the line of a note, a label or an instruction; `rest` is the text after it.
+fn note_or_code<'a>(
+    draft: &mut Draft<'a>,
+    line: u32,
+    first: &'a [u8],
+    behind: &[&'a [u8]],
+    words: &[&'a [u8]],
+    rest: &[u8],
+) -> Result<(), Fault>
+    requires { map (λ w. w.now) words.now ≡ first.now ∷ map (λ w. w.now) behind.now }
+    ensures { Becomes result (draft_of draft.new) (if bytes_eq first.now (codes ".note")
+        then note_line (instruction_follows (lines rest.now)) (map (λ w. w.now) behind.now) (draft_of draft.old)
+        else label_or_code line (label_name first.now) first.now (map (λ w. w.now) behind.now) (draft_of draft.old)) }
+{
+    if same(first, b".note") {
+        note_line(draft, behind, rest)
+    } else {
+        label_or_code(draft, line, first, behind, words)
+    }
+}
+
 /// Reads line number `line` by its words; `rest` is the text after it.
 #[tactic(auto, unfolding(crate::specs::Reading::by_first_word))]
 fn read_words<'a>(
@@ -53,10 +74,8 @@ fn read_words<'a>(
         bank_line(draft, behind)
     } else if same(first, b".symbol") {
         symbol_line(alloc, draft, behind)
-    } else if same(first, b".note") {
-        note_line(draft, behind, rest)
     } else {
-        label_or_code(draft, line, first, behind, words)
+        note_or_code(draft, line, first, behind, words, rest)
     }
 }
 

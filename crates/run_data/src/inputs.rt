@@ -1,4 +1,4 @@
-ghost use Rattle.std.specs.Prelude.{◌≡◌, ◌≢◌, ◌≤◌, [], ◌∷◌, All, IfOk, IfErr, OnOk, None, Some, Ok, Err, length, map, replicate, unwrap_or, pos};
+ghost use Rattle.std.specs.Prelude.{◌≡◌, ◌≢◌, ◌≤◌, [], ◌∷◌, ◌++◌, All, IfOk, IfErr, OnOk, None, Some, Ok, Err, length, map, replicate, unwrap_or, pos};
 ghost use Rattle.std.specs.BTreeMap.{btree_map_len};
 ghost use Rattle.std.specs.Option.{option_map_or};
 ghost use Rattle.gr_word.specs.Prelude.{AreDistinct, AreVariables, AreWords, FitsWants, IsWord};
@@ -186,11 +186,24 @@ fn one_word(alloc: Global, word: Option<i64>) -> Result<Vec<i64>, Memory>
     Ok(words)
 }
 
+fn push_word(words: &mut Vec<i64>, word: i64) -> Result<(), Memory>
+    requires { AreWords words.old.items }
+    ensures pushed { OnOk result (words.new.items ≡ words.old.items ++ word ∷ []) }
+    ensures words { OnOk result (AreWords words.new.items) }
+{
+    words.push(word)?;
+    Ok(())
+}
+
 fn copied(alloc: Global, words: &[i64]) -> Result<Vec<i64>, Memory>
     ensures copied { IfOk result (λ copy. copy.items ≡ words.now) }
     ensures words { IfOk result (λ copy. AreWords copy.items) }
 {
-    Ok(Vec::from_slice(alloc, words)?)
+    let mut copy = Vec::with_capacity(alloc, words.len())?;
+    for word in words {
+        push_word(&mut copy, *word)?;
+    }
+    Ok(copy)
 }
 
 /// The text of a name, which is ASCII.

@@ -107,7 +107,6 @@ fn declare(
 }
 
 // Reads the next token of a program.
-#[tactic(auto, using(crate::proofs::ProgramSteps::in_program))]
 fn take(alloc: Global, state: &mut ParserState, kind: &Kind) -> Result<Advance, Memory>
     ensures { IfOk result (λ t. advance_of t (state_of state.new) ≡ advanced limits (state_of state.old) kind.now) }
 {

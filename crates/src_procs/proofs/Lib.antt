@@ -1,4 +1,5 @@
 pub mod Mirrors
+pub mod Appended
 pub mod Entering
 pub mod Following
 pub mod NewNames
@@ -29,4 +30,5 @@ pub mod NeededBindings
 pub mod KeptNames
 pub mod OwnSteps
 pub mod OwnCalls
+pub mod OwnParameters
 pub mod WholeFiles

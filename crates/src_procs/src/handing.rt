@@ -120,7 +120,8 @@ fn handed_arguments<'a>(
 ) -> Result<Option<Vec<&'a Expr>>, Memory>
     requires { length params.now ≡ length arguments.now }
     ensures { IfOk result (λ r. IfSome r (λ all. map Some (trees_seen all.items)
-        ≡ map (spec.handed (spec.argument_of (map parameter_of params.now) (trees_seen arguments.now))) (trees_seen own.now))) }
+        ≡ map (spec.handed (spec.argument_of (map parameter_of params.now) (trees_seen arguments.now)))
+        (trees_seen own.now))) }
 {
     let given = by_name(alloc, params, arguments)?;
     all_handed(alloc, &given, own)

@@ -86,7 +86,8 @@ fn mark_element<'a>(
     value: &'a Expr,
 ) -> Result<(), Memory>
     ensures { OnOk result (found_under needed.new
-        ≡ spec.marked (spec.marked (numbered (found_under needed.old) name.now 0) (expr_tree index.now)) (expr_tree value.now)) }
+        ≡ spec.marked (spec.marked (numbered (found_under needed.old) name.now 0) (expr_tree index.now))
+        (expr_tree value.now)) }
 {
     mark_name(needed, name)?;
     mark(needed, index)?;

@@ -141,14 +141,16 @@ fn knows_guard<'a>(names: &Numbers<'a>, guard: &'a Guard) -> bool
 
 // Whether the names of an assignment to a variable are known.
 fn knows_set<'a>(names: &Numbers<'a>, name: &'a Name, value: &'a Expr) -> bool
-    ensures { result ≡ (is_some (found_under names.now name.now) && spec.knows (found_under names.now) (expr_tree value.now)) }
+    ensures { result
+        ≡ (is_some (found_under names.now name.now) && spec.knows (found_under names.now) (expr_tree value.now)) }
 {
     is_known(names, name) && knows(names, value)
 }
 
 // Whether the names of an assignment to an element are known.
 fn knows_element<'a>(names: &Numbers<'a>, name: &'a Name, index: &'a Expr, value: &'a Expr) -> bool
-    ensures { result ≡ (is_some (found_under names.now name.now) && spec.knows (found_under names.now) (expr_tree index.now)
+    ensures { result ≡ (is_some (found_under names.now name.now)
+        && spec.knows (found_under names.now) (expr_tree index.now)
         && spec.knows (found_under names.now) (expr_tree value.now)) }
 {
     is_known(names, name) && knows(names, index) && knows(names, value)
