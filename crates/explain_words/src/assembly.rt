@@ -105,7 +105,7 @@ impl Line<'_> {
             return self.put_unknown(alloc, out);
         };
         if let Some(misfit) = misfit_of(self.line, form) {
-            return self.put_misfit(misfit, form[2], out);
+            return self.put_misfit(misfit, form.sentence, out);
         }
         let front = piece(self.source.text, 0, self.start);
         let found = if is_number {
@@ -113,7 +113,12 @@ impl Line<'_> {
         } else {
             misplaced(front, self.line)
         };
-        self.put(found.at, found.what, found.hint.unwrap_or(form[2]), out)
+        self.put(
+            found.at,
+            found.what,
+            found.hint.unwrap_or(form.sentence),
+            out,
+        )
     }
 
     // An operand that its form doesn't allow.
@@ -228,7 +233,7 @@ fn of_foreign(bytes: &[u8]) -> (&'static str, &'static str) {
 fn nearest_word(alloc: Global, word: &[u8]) -> Result<Option<&'static [u8]>, Memory> {
     let mut nearest = Nearest::to(alloc, word)?;
     for form in FORMS {
-        nearest.compare_each(alloc, form[0])?;
+        nearest.compare_each(alloc, form.words)?;
     }
     Ok(nearest.found())
 }

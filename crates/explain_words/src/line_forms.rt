@@ -6,77 +6,95 @@ use gr_word::name_fits;
 
 /// A form of lines: the words that begin one, the kinds of the operands after it, and the form in a sentence. The kind
 /// `L..M` is a number from L to M.
-pub(crate) type LineForm = [&'static str; 3];
+#[derive(Clone, Copy)]
+pub(crate) struct LineForm {
+    pub words: &'static str,
+    pub operands: &'static str,
+    pub sentence: &'static str,
+}
 
 const OBJECT: &str =
     "The first line is `.object 1 W ALU MUL WORD TAKEN`, or `.object 2 W ALU MUL WORD TAKEN PERIOD OPEN CLOSE`. W is \
     from 3 to 9; ALU, MUL and WORD are from 1 to 127 cycles, and TAKEN is from 1 to 32.";
 
 /// The form of a first line with a window.
-const WINDOWED: LineForm = [
-    ".object",
-    "2..2 3..9 1..127 1..127 1..127 1..32 2..1000000 0..999999 1..1000000",
-    OBJECT,
-];
+const WINDOWED: LineForm = LineForm {
+    words: ".object",
+    operands: "2..2 3..9 1..127 1..127 1..127 1..32 2..1000000 0..999999 1..1000000",
+    sentence: OBJECT,
+};
 
 pub(crate) const FORMS: &[LineForm] = &[
-    [".object", "1..2 3..9 1..127 1..127 1..127 1..32", OBJECT],
-    [
-        ".bank",
-        "1..65536 1..1000000",
-        "Its form is `.bank BLOCKS LATENCY`, after `.object`. There are 2 to 10 banks: the first two have at most \
-        65536 blocks, and the others 4096. A latency is at most 1000000 cycles.",
-    ],
-    [
-        ".symbol",
-        "name label shape 0..9 0..65535 0..511 1..1048576",
-        "Its form is `.symbol NAME LABEL SHAPE BANK BLOCK WORD LENGTH`, after the banks. LABEL is public or secret, \
-        and SHAPE is scalar or array. The variable is within its bank, and after the previous symbol.",
-    ],
-    [
-        ".note",
-        "mask claim claim claim claim claim claim claim claim",
-        "Its form is `.note MASK S0 .. S7`, directly before an instruction. MASK is eight hexadecimal digits in lower \
-        case, and each slot has `-` or a bank's number.",
-    ],
-    [
-        "br",
-        "comparison register register -> target",
-        "Its form is `br eq r1 r2 -> +2`: a comparison (eq ne lt le gt ge), two registers, and a place, an offset or a \
-        label.",
-    ],
-    [
-        "jmp",
-        "-> target",
-        "Its form is `jmp -> 7`: a place, an offset with a sign as +3 or -2, or a label.",
-    ],
-    [
-        "li",
-        "register word",
-        "Its form is `li r1 -5`: a register from r0 to r31, and a signed integer of 64 bits.",
-    ],
-    [
-        "ldb",
-        "slot bank register",
-        "Its form is `ldb 0 D r1`: a slot from 0 to 7, a bank of the object (D, E, or O2 to O9), and a register.",
-    ],
-    ["stb", "slot", "Its form is `stb 0`: a slot from 0 to 7."],
-    [
-        "idb",
-        "register slot",
-        "Its form is `idb r1 0`: a register, and a slot from 0 to 7.",
-    ],
-    [
-        "ldw stw",
-        "register slot register",
-        "Its form is `ldw r1 0 r2`, and likewise for `stw`: a register, a slot from 0 to 7, and a register.",
-    ],
-    ["nop halt", "", "It has no operands."],
-    [
-        "add sub mul div rem remu and or xor shl shr",
-        "register register register",
-        "Its form is `add r1 r2 r3`: three registers from r0 to r31.",
-    ],
+    LineForm {
+        words: ".object",
+        operands: "1..2 3..9 1..127 1..127 1..127 1..32",
+        sentence: OBJECT,
+    },
+    LineForm {
+        words: ".bank",
+        operands: "1..65536 1..1000000",
+        sentence: "Its form is `.bank BLOCKS LATENCY`, after `.object`. There are 2 to 10 banks: the first two have at \
+        most 65536 blocks, and the others 4096. A latency is at most 1000000 cycles.",
+    },
+    LineForm {
+        words: ".symbol",
+        operands: "name label shape 0..9 0..65535 0..511 1..1048576",
+        sentence: "Its form is `.symbol NAME LABEL SHAPE BANK BLOCK WORD LENGTH`, after the banks. LABEL is public or \
+        secret, and SHAPE is scalar or array. The variable is within its bank, and after the previous symbol.",
+    },
+    LineForm {
+        words: ".note",
+        operands: "mask claim claim claim claim claim claim claim claim",
+        sentence: "Its form is `.note MASK S0 .. S7`, directly before an instruction. MASK is eight hexadecimal digits \
+        in lower case, and each slot has `-` or a bank's number.",
+    },
+    LineForm {
+        words: "br",
+        operands: "comparison register register -> target",
+        sentence: "Its form is `br eq r1 r2 -> +2`: a comparison (eq ne lt le gt ge), two registers, and a place, an \
+        offset or a label.",
+    },
+    LineForm {
+        words: "jmp",
+        operands: "-> target",
+        sentence: "Its form is `jmp -> 7`: a place, an offset with a sign as +3 or -2, or a label.",
+    },
+    LineForm {
+        words: "li",
+        operands: "register word",
+        sentence: "Its form is `li r1 -5`: a register from r0 to r31, and a signed integer of 64 bits.",
+    },
+    LineForm {
+        words: "ldb",
+        operands: "slot bank register",
+        sentence: "Its form is `ldb 0 D r1`: a slot from 0 to 7, a bank of the object (D, E, or O2 to O9), and a \
+        register.",
+    },
+    LineForm {
+        words: "stb",
+        operands: "slot",
+        sentence: "Its form is `stb 0`: a slot from 0 to 7.",
+    },
+    LineForm {
+        words: "idb",
+        operands: "register slot",
+        sentence: "Its form is `idb r1 0`: a register, and a slot from 0 to 7.",
+    },
+    LineForm {
+        words: "ldw stw",
+        operands: "register slot register",
+        sentence: "Its form is `ldw r1 0 r2`, and likewise for `stw`: a register, a slot from 0 to 7, and a register.",
+    },
+    LineForm {
+        words: "nop halt",
+        operands: "",
+        sentence: "It has no operands.",
+    },
+    LineForm {
+        words: "add sub mul div rem remu and or xor shl shr",
+        operands: "register register register",
+        sentence: "Its form is `add r1 r2 r3`: three registers from r0 to r31.",
+    },
 ];
 
 /// A word of a line, and the byte of the line at which it begins.
@@ -112,7 +130,7 @@ pub(crate) fn form_of(line: &[u8]) -> Option<LineForm> {
         return Some(WINDOWED);
     }
     for form in FORMS {
-        if is_word_of(form[0], first.bytes) {
+        if is_word_of(form.words, first.bytes) {
             return Some(*form);
         }
     }
@@ -130,7 +148,7 @@ pub(crate) struct Misfit<'a> {
 /// The first word of a line that isn't what its form wants.
 pub(crate) fn misfit_of<'a>(line: &'a [u8], form: LineForm) -> Option<Misfit<'a>> {
     let mut word = word_after(line, word_from(line, 0));
-    for kind in form[1].split(" ") {
+    for kind in form.operands.split(" ") {
         if kind.is_empty() {
             continue;
         }
