@@ -1,5 +1,5 @@
 -- What contracts see of a sink in the place of another one, as it takes a text.
-use Rattle.std.proofs.Common.{◌≡◌, ℕ, Bool, true, false, List, Option, Some, None, IfSome, length, refl, true≢false, sym, ◌∙◌}
+use Rattle.std.proofs.Common.{◌≡◌, ℕ, Bool, true, false, List, Option, Some, None, IfSome, length, refl, true≢false, sym}
 use Rattle.gr_base.specs.Prelude.{Adds}
 use Rattle.gr_outside.specs.Prelude.{SinkSeen}
 use Rattle.ghost_front.specs.Prelude.{held_seen}
