@@ -22,8 +22,8 @@ const WORDS = {
       "secret"
     ],
     "keywords": [
-      ".note",
       ".object",
+      ".note",
       ".bank",
       ".symbol"
     ],

@@ -48,6 +48,22 @@ streams_file asked before after output output-after errors errors-after verdict 
       delivered = subst (λ f. Delivers f output output-after verdict status) same delivers;
     }
 
+-- the same if another sink, seen as standard error at first, kept the text
+pub streams_lines : (asked : Option Work) (before after : Streams) (output output-after errors errors-after : SinkSeen)
+    (start said : SinkSeen) (verdict status : ℕ) (file : Option (List ℕ))
+    → Promises asked (outside (as_shelf before) start) (outside (as_shelf after) said) verdict
+    → start ≡ errors → file ≡ after.output → Delivers file output output-after verdict status
+    → StreamsFile asked (around before output errors) (around after output-after errors-after) status
+streams_lines asked before after output output-after errors errors-after start said verdict status file promises begins same
+    delivers =
+    record {
+      verdict = verdict;
+      said = said;
+      promises = subst (λ s. Promises asked (outside (as_shelf before) s) (outside (as_shelf after) said) verdict) begins
+          promises;
+      delivered = subst (λ f. Delivers f output output-after verdict status) same delivers;
+    }
+
 -- ---- the exits of a call
 
 pub refused : (asked : Option Work) (shelf : Streams) (output output-after errors errors-after : SinkSeen) (status : ℕ)

@@ -123,7 +123,7 @@ fn serve_to_output<'a, F: Shelf + Drop, O: Sink, E: Sink>(
 
 /// The same, with the verb's text as lines of JSON. The text is left out if the file couldn't be printed, or if memory
 /// runs out for it.
-#[tactic(auto, using(crate::proofs::CallEnds::streams_file))]
+#[tactic(auto, using(crate::proofs::CallEnds::streams_lines))]
 fn serve_as_lines<'a, F: Shelf + Drop, O: Sink, E: Sink>(
     alloc: Global,
     words: &[&str],
@@ -138,17 +138,22 @@ fn serve_as_lines<'a, F: Shelf + Drop, O: Sink, E: Sink>(
     let verdict = ghostrider(alloc, words, shelf, &mut held);
     let text = held.into_text();
     let status = deliver(verdict, shelf.output(), out);
-    if status == verdict
-        && let Some(text) = text
-    {
-        put_as_lines(alloc, status, text.as_slice(), errors);
-    }
+    put_as_lines(alloc, verdict, status, text, errors);
     Ended { status, stop: None }
 }
 
-// Prints a verb's text as lines of JSON.
-fn put_as_lines<E: Sink>(alloc: Global, status: u8, text: &[u8], errors: &mut E) {
-    if let Ok(lines) = as_json(alloc, status, text) {
+// Prints a verb's text as lines of JSON, unless the file that it is about couldn't be printed, or memory ran out.
+fn put_as_lines<E: Sink>(
+    alloc: Global,
+    verdict: u8,
+    status: u8,
+    text: Option<Vec<u8>>,
+    errors: &mut E,
+) {
+    if status == verdict
+        && let Some(text) = text
+        && let Ok(lines) = as_json(alloc, status, text.as_slice())
+    {
         put_text(lines.as_slice(), errors);
     }
 }

@@ -33,7 +33,7 @@ pub struct TestWords<'a> {
 /// prints a line for each case that fails, and the numbers of both.
 ///
 /// Statuses: 0 all cases pass; 1 a case fails; 2, 3, 5, 8 and 11 as of `compile`, with the same lines; 9 the file of
-/// cases isn't UTF-8; 4 the text couldn't be printed.
+/// cases isn't UTF-8 or has no case; 4 the text couldn't be printed.
 pub struct Test;
 
 impl<'a> Tool<'a> for Test {
@@ -62,7 +62,7 @@ impl<'a> Tool<'a> for Test {
         let accepted = accepted_of(alloc, object)?;
         let bytes = read_file(words.cases, CASES_BYTES, shelf)?;
         let Ok(text) = str::from_utf8(&bytes) else {
-            return Err(Reply::Comes(Verdict::BadInput(InputFault::Json)));
+            return Err(no_cases());
         };
         let subject = Subject {
             program: &source.program,
@@ -70,8 +70,17 @@ impl<'a> Tool<'a> for Test {
             cycles: words.cycles,
         };
         let tried = try_cases(alloc, subject, text)?;
+        // A file that was emptied or mistaken for another would pass otherwise.
+        if tried.passed == 0 && tried.failed == 0 {
+            return Err(no_cases());
+        }
         Ok(report(alloc, tried)?)
     }
+}
+
+// The reply if a file has no cases.
+fn no_cases<'a>() -> Reply<'a> {
+    Reply::Comes(Verdict::BadInput(InputFault::Json))
 }
 
 // The lines of the cases that failed, and how many passed and failed.

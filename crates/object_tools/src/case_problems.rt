@@ -22,6 +22,14 @@ impl<E: Into<Memory> + Drop> From<E> for Problem {
     }
 }
 
+/// The problem of a text that was made, or that there was no memory for it.
+pub(crate) fn stating(text: Result<String, Memory>) -> Problem {
+    match text {
+        Ok(text) => Problem::Says(text),
+        Err(_) => Problem::NoMemory,
+    }
+}
+
 /// The problem of this text.
 pub(crate) fn saying(alloc: Global, text: &str) -> Problem {
     match String::from_str(alloc, text) {
@@ -33,20 +41,22 @@ pub(crate) fn saying(alloc: Global, text: &str) -> Problem {
 /// The most bytes of a name that a line quotes.
 const MOST_QUOTED: usize = 64;
 
-/// The problem of a text, a name in quotation marks, and another text. A long name isn't quoted.
-pub(crate) fn saying_of(alloc: Global, before: &str, name: &str, after: &str) -> Problem {
-    let quoted = if name.len() <= MOST_QUOTED {
+/// A name in quotation marks, as JSON has it. A long name isn't quoted.
+pub(crate) fn quoted(alloc: Global, name: &str) -> Result<JsonText, Memory> {
+    let shown = if name.len() <= MOST_QUOTED {
         name
     } else {
         "..."
     };
-    match quoted_between(alloc, before, quoted, after) {
-        Ok(text) => Problem::Says(text),
-        Err(_) => Problem::NoMemory,
-    }
+    Ok(JsonText::new(alloc, shown)?)
+}
+
+/// The problem of a text, a name in quotation marks, and another text.
+pub(crate) fn saying_of(alloc: Global, before: &str, name: &str, after: &str) -> Problem {
+    stating(quoted_between(alloc, before, name, after))
 }
 
 fn quoted_between(alloc: Global, before: &str, name: &str, after: &str) -> Result<String, Memory> {
-    let name = JsonText::new(alloc, name)?;
+    let name = quoted(alloc, name)?;
     Ok(format!(in alloc; "{before}{name}{after}")?)
 }

@@ -3,17 +3,22 @@
 ghost use Rattle.std.specs.Prelude.{IfOk};
 ghost use Rattle.gr_word.specs.Prelude.{AreVariables, FitsWants};
 
-use crate::case_problems::{Problem, saying, saying_of};
+use crate::case_problems::{Problem, saying, saying_of, stating};
+use crate::misfits::{misfit, unknown_name};
+use gr_base::Memory;
 use gr_word::{Inputs, Want};
 use run_data::{INPUT_BYTES, InputError, Name2, read_inputs};
 use serde_json::{Map, Value};
 use std::alloc::Global;
 
 /// The member of a case with the inputs.
-const GIVEN: &str = "in";
+pub(crate) const GIVEN: &str = "in";
 
 /// The member of a case with the outputs that are expected.
-const EXPECTED: &str = "out";
+pub(crate) const EXPECTED: &str = "out";
+
+/// The form of a case.
+const FORM: &str = "{\"in\": {..}, \"out\": {..}}";
 
 /// A case, as the members of its two objects.
 #[derive(Drop)]
@@ -36,7 +41,39 @@ impl Case {
         requires { AreVariables wants.now }
         ensures { IfOk result (λ inputs. FitsWants wants.now inputs) }
     {
-        inputs_in(alloc, wants, self.given.as_bytes())
+        let text = self.given.as_bytes();
+        if text.len() > INPUT_BYTES {
+            return Err(saying(alloc, "the inputs are too long"));
+        }
+        match read_inputs(alloc, wants, text) {
+            Ok(inputs) => Ok(inputs),
+            Err(fault) => Err(self.not_given(alloc, wants, fault)),
+        }
+    }
+
+    fn not_given(&self, alloc: Global, wants: &[Want], fault: InputError) -> Problem {
+        match fault {
+            InputError::BadJson => saying(alloc, "not JSON"),
+            InputError::NotAnObject => saying(alloc, "\"in\" is not an object"),
+            InputError::UnknownName(name) => unknown_name(alloc, GIVEN, name.text(), wants),
+            InputError::WrongShape(name) => self.unfit(alloc, wants, &name),
+            InputError::WrongLength(name) => self.unfit(alloc, wants, &name),
+            InputError::NotAWord(name) => self.unfit(alloc, wants, &name),
+            InputError::Memory => Problem::NoMemory,
+        }
+    }
+
+    // That the input of a name isn't what its variable needs.
+    fn unfit(&self, alloc: Global, wants: &[Want], name: &Name2) -> Problem {
+        let name = name.text();
+        if let (Some(want), Some(value)) = (want_named(wants, name), self.input(name)) {
+            return misfit(alloc, GIVEN, want, value);
+        }
+        saying_of(alloc, "in: ", name, " doesn't fit its variable")
+    }
+
+    fn input(&self, name: &str) -> Option<&Value> {
+        self.value.get(GIVEN)?.get(name)
     }
 
     /// The outputs that are expected, by the names of variables.
@@ -45,21 +82,33 @@ impl Case {
     }
 }
 
+/// The variable of a name.
+pub(crate) fn want_named<'a>(wants: &'a [Want], name: &str) -> Option<&'a Want> {
+    wants
+        .iter()
+        .find(|want| want.name.bytes() == name.as_bytes())
+}
+
 fn value_of(alloc: Global, line: &str) -> Result<Value, Problem> {
     match Value::from_slice(alloc, line.as_bytes()) {
         Ok(value) => Ok(value),
         Err(error) => Err(if error.is_memory() {
             Problem::NoMemory
         } else {
-            saying(alloc, "not JSON")
+            stating(not_json(alloc, error.column()))
         }),
     }
+}
+
+// That a line isn't JSON from this column on, as a line of a case that was broken into several.
+fn not_json(alloc: Global, column: usize) -> Result<String, Memory> {
+    Ok(format!(in alloc; "not JSON at column {column}; each line is one case: {FORM}")?)
 }
 
 // The text of the inputs of a case that has no other members than its two objects.
 fn given_in(alloc: Global, value: &Value) -> Result<String, Problem> {
     let Some(members) = value.as_object() else {
-        return Err(saying(alloc, "a case is {\"in\": {..}, \"out\": {..}}"));
+        return Err(stating(no_case(alloc)));
     };
     for (name, member) in members {
         check_member(alloc, name.as_str(), member)?;
@@ -68,6 +117,10 @@ fn given_in(alloc: Global, value: &Value) -> Result<String, Problem> {
         Some(given) => Ok(given.to_string(alloc)?),
         None => Err(saying(alloc, "there is no \"in\"")),
     }
+}
+
+fn no_case(alloc: Global) -> Result<String, Memory> {
+    Ok(format!(in alloc; "a case is {FORM}")?)
 }
 
 fn check_member(alloc: Global, name: &str, member: &Value) -> Result<(), Problem> {
@@ -82,41 +135,5 @@ fn check_member(alloc: Global, name: &str, member: &Value) -> Result<(), Problem
     match member.as_object() {
         Some(_) => Ok(()),
         None => Err(saying_of(alloc, "", name, " is not an object")),
-    }
-}
-
-fn inputs_in(alloc: Global, wants: &[Want], text: &[u8]) -> Result<Inputs, Problem>
-    requires { AreVariables wants.now }
-    ensures { IfOk result (λ inputs. FitsWants wants.now inputs) }
-{
-    if text.len() > INPUT_BYTES {
-        return Err(saying(alloc, "the inputs are too long"));
-    }
-    match read_inputs(alloc, wants, text) {
-        Ok(inputs) => Ok(inputs),
-        Err(fault) => Err(not_given(alloc, fault)),
-    }
-}
-
-fn not_given(alloc: Global, fault: InputError) -> Problem {
-    match fault {
-        InputError::BadJson => saying(alloc, "not JSON"),
-        InputError::NotAnObject => saying(alloc, "\"in\" is not an object"),
-        InputError::UnknownName(name) => saying_of(alloc, "no variable ", name.text(), ""),
-        InputError::WrongShape(name) => wrong(
-            alloc,
-            &name,
-            "a number for a list, or a list for a number",
-        ),
-        InputError::WrongLength(name) => wrong(alloc, &name, "the list has another length"),
-        InputError::NotAWord(name) => wrong(alloc, &name, "not a 64-bit integer"),
-        InputError::Memory => Problem::NoMemory,
-    }
-}
-
-fn wrong(alloc: Global, name: &Name2, what: &str) -> Problem {
-    match format!(in alloc; ": {what}") {
-        Ok(after) => saying_of(alloc, "in: ", name.text(), after.as_str()),
-        Err(_) => Problem::NoMemory,
     }
 }

@@ -1,41 +1,42 @@
 //! Whether a run left what a case expects.
 
-use crate::case_problems::{Problem, saying_of};
+use crate::case_problems::Problem;
+use crate::cases::EXPECTED;
+use crate::misfits::{misfit, unknown_name};
 use crate::variables::words_of;
-use gr_word::{Inputs, Shape};
-use lt_isa::Symbol;
+use gr_word::{Inputs, Shape, Want};
 use serde_json::{Map, Value};
 use std::alloc::Global;
 
-/// A variable of an object, and the words that a run left in it.
+/// A variable, and the words that a run left in it.
 #[derive(Clone, Copy)]
 struct Left<'a> {
-    symbol: &'a Symbol,
+    want: &'a Want,
     words: &'a [i64],
 }
 
 /// Checks that the variables that a case names have the words that it expects. Other variables may have any.
 pub(crate) fn check_expected(
     alloc: Global,
-    symbols: &[Symbol],
+    wants: &[Want],
     left: &Inputs,
     expected: &Map<String, Value>,
 ) -> Result<(), Problem> {
     for (name, value) in expected {
         let name = name.as_str();
-        let Some(variable) = variable_named(symbols, left, name) else {
-            return Err(saying_of(alloc, "no variable ", name, ""));
+        let Some(variable) = variable_named(wants, left, name) else {
+            return Err(unknown_name(alloc, EXPECTED, name, wants));
         };
         check_variable(alloc, variable, name, value)?;
     }
     Ok(())
 }
 
-fn variable_named<'a>(symbols: &'a [Symbol], left: &'a Inputs, name: &str) -> Option<Left<'a>> {
-    for (number, symbol) in symbols.iter().enumerate() {
-        if symbol.name.bytes() == name.as_bytes() {
+fn variable_named<'a>(wants: &'a [Want], left: &'a Inputs, name: &str) -> Option<Left<'a>> {
+    for (number, want) in wants.iter().enumerate() {
+        if want.name.bytes() == name.as_bytes() {
             return Some(Left {
-                symbol,
+                want,
                 words: words_of(left, number),
             });
         }
@@ -49,15 +50,20 @@ fn check_variable(
     name: &str,
     value: &Value,
 ) -> Result<(), Problem> {
-    match variable.symbol.shape {
-        Shape::Scalar => check_scalar(alloc, variable.words, name, value),
-        Shape::Array => check_array(alloc, variable.words, name, value),
+    match variable.want.shape {
+        Shape::Scalar => check_scalar(alloc, variable, name, value),
+        Shape::Array => check_array(alloc, variable, name, value),
     }
 }
 
-fn check_scalar(alloc: Global, words: &[i64], name: &str, value: &Value) -> Result<(), Problem> {
-    let (Some(word), Some(expected)) = (words.first(), value.as_i64()) else {
-        return Err(saying_of(alloc, "out: ", name, ": not a 64-bit integer"));
+fn check_scalar(
+    alloc: Global,
+    variable: Left<'_>,
+    name: &str,
+    value: &Value,
+) -> Result<(), Problem> {
+    let (Some(word), Some(expected)) = (variable.words.first(), value.as_i64()) else {
+        return Err(misfit(alloc, EXPECTED, variable.want, value));
     };
     if *word == expected {
         return Ok(());
@@ -65,16 +71,22 @@ fn check_scalar(alloc: Global, words: &[i64], name: &str, value: &Value) -> Resu
     Err(missed(alloc, name, "", *word, expected))
 }
 
-fn check_array(alloc: Global, words: &[i64], name: &str, value: &Value) -> Result<(), Problem> {
+fn check_array(
+    alloc: Global,
+    variable: Left<'_>,
+    name: &str,
+    value: &Value,
+) -> Result<(), Problem> {
+    let Left { want, words } = variable;
     let Some(values) = value.as_array() else {
-        return Err(saying_of(alloc, "out: ", name, ": a number for a list"));
+        return Err(misfit(alloc, EXPECTED, want, value));
     };
     if values.len() != words.len() {
-        return Err(saying_of(alloc, "out: ", name, ": the list has another length"));
+        return Err(misfit(alloc, EXPECTED, want, value));
     }
-    for (index, (word, value)) in words.iter().zip(values.as_slice()).enumerate() {
-        let Some(expected) = value.as_i64() else {
-            return Err(saying_of(alloc, "out: ", name, ": an element is not a 64-bit integer"));
+    for (index, (word, item)) in words.iter().zip(values.as_slice()).enumerate() {
+        let Some(expected) = item.as_i64() else {
+            return Err(misfit(alloc, EXPECTED, want, value));
         };
         if *word != expected {
             return Err(missed_at(alloc, name, index, *word, expected));

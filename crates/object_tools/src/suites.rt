@@ -1,6 +1,6 @@
 //! The cases of a program, tried one after another.
 
-ghost use Rattle.std.specs.Prelude.{◌≡◌, ◌≤◌, IfOk};
+ghost use Rattle.std.specs.Prelude.{◌≡◌, ◌≤◌, ◌↔◌, [], IfOk, OnOk, string_bytes};
 ghost use Rattle.gr_word.specs.Prelude.{FitsWants};
 ghost use Rattle.lt_isa.specs.Prelude.{IsInRange, FitsObject};
 ghost use Rattle.flow_types.specs.Prelude.{declared_wants};
@@ -9,16 +9,18 @@ use crate::case_problems::{Problem, saying};
 use crate::cases::Case;
 use crate::comparing::Comparison;
 use crate::expectations::check_expected;
+use crate::public_words::{PublicWord, public_words};
 use crate::runs::{RunWords, compare_runs, values_meant, words_left};
 use crate::variables::{number_of, words_of};
 use call_steps::oblivious::SeededOram;
 use flow_types::Typed;
 use gr_base::Memory;
-use gr_word::{Inputs, Label};
+use gr_word::Inputs;
 use lt_checker::Accepted;
 use lt_isa::Symbol;
 use src_tree::Decl;
 use std::alloc::Global;
+use std::collections::BTreeMap;
 
 /// A program and its accepted object, with the number of cycles of a run.
 #[derive(Clone, Copy)]
@@ -28,13 +30,15 @@ pub struct Subject<'a> {
     pub cycles: u32,
 }
 
-/// The first case with some public inputs: its line, itself, and the words that it gave the object's symbols.
-#[derive(Drop)]
-struct First {
-    line: usize,
-    case: Case,
-    inputs: Inputs,
+/// A line of the text, with its number.
+#[derive(Clone, Copy)]
+struct Line<'a> {
+    number: usize,
+    text: &'a str,
 }
+
+/// The first line of each public input. Only its text is kept: few of a file's cases are compared with it.
+type Firsts<'a> = BTreeMap<Vec<PublicWord>, Line<'a>>;
 
 /// How many cases passed and failed, and a line for each failure.
 #[derive(Drop)]
@@ -44,21 +48,22 @@ pub struct Tried {
     pub lines: String,
 }
 
-/// Tries the cases of a text, one a line. Lines without any are skipped.
+/// Tries the cases of a text, one a line. Lines without any are skipped. Each failure has a line.
 pub fn try_cases(alloc: Global, subject: Subject<'_>, text: &str) -> Result<Tried, Memory>
     requires in_range { IsInRange subject.accepted.now }
     requires some_cycle { 1 ≤ subject.cycles }
+    ensures { IfOk result (λ tried. tried.failed ≡ 0 ↔ string_bytes tried.lines ≡ []) }
 {
-    let mut firsts = Vec::new(alloc);
+    let mut firsts = BTreeMap::new(alloc);
     let mut tried = Tried {
         passed: 0,
         failed: 0,
         lines: String::new(alloc),
     };
-    for (before, line) in text.split("\n").enumerate() {
-        if !line.trim_ascii().is_empty() {
+    for (before, text) in text.split("\n").enumerate() {
+        if !text.trim_ascii().is_empty() {
             let number = before.saturating_add(1);
-            let outcome = try_line(alloc, subject, &mut firsts, number, line);
+            let outcome = try_line(alloc, subject, &mut firsts, Line { number, text });
             tried.count(alloc, number, outcome)?;
         }
     }
@@ -72,48 +77,46 @@ impl Tried {
         alloc: Global,
         line: usize,
         outcome: Result<(), Problem>,
-    ) -> Result<(), Memory> {
+    ) -> Result<(), Memory>
+        ensures { OnOk result ((self.old.failed ≡ 0 ↔ string_bytes self.old.lines ≡ [])
+            → (self.new.failed ≡ 0 ↔ string_bytes self.new.lines ≡ [])) }
+    {
         match outcome {
-            Ok(()) => self.passed = self.passed.saturating_add(1),
-            Err(Problem::NoMemory) => return Err(Memory),
+            Ok(()) => {
+                self.passed = self.passed.saturating_add(1);
+                Ok(())
+            }
+            Err(Problem::NoMemory) => Err(Memory),
             Err(Problem::Says(what)) => {
-                self.failed = self.failed.saturating_add(1);
                 let text = format!(in alloc; "line {line}: {what}\n")?;
+                self.failed = self.failed.saturating_add(1);
                 self.lines.push_str(text.as_str())?;
+                Ok(())
             }
         }
-        Ok(())
     }
 }
 
 // Tries the case of a line. If it is the first with its public inputs, later cases are
 // compared with it.
-fn try_line(
+fn try_line<'a>(
     alloc: Global,
     subject: Subject<'_>,
-    firsts: &mut Vec<First>,
-    number: usize,
-    line: &str,
+    firsts: &mut Firsts<'a>,
+    line: Line<'a>,
 ) -> Result<(), Problem>
     requires in_range { IsInRange subject.accepted.now }
     requires some_cycle { 1 ≤ subject.cycles }
 {
-    let case = Case::of(alloc, line)?;
+    let case = Case::of(alloc, line.text)?;
     let wants = subject.accepted.object().wants(alloc)?;
     let inputs = case.inputs(alloc, &wants)?;
     let left = words_of_run(alloc, subject, &inputs)?;
     if let Some(expected) = case.expected() {
-        check_expected(alloc, subject.accepted.object().symbols(), &left, expected)?;
+        check_expected(alloc, &wants, &left, expected)?;
     }
     check_meaning(alloc, subject, &case, &left)?;
-    if !has_known_trace(alloc, subject, firsts, &inputs)? {
-        firsts.push(First {
-            line: number,
-            case,
-            inputs,
-        })?;
-    }
-    Ok(())
+    check_trace(alloc, subject, firsts, line, &inputs)
 }
 
 fn words_of_run(alloc: Global, subject: Subject<'_>, inputs: &Inputs) -> Result<Inputs, Problem>
@@ -168,62 +171,52 @@ fn is_meant(symbols: &[Symbol], left: &Inputs, decls: &[Decl], meant: &Inputs) -
     true
 }
 
-// Whether an earlier case has the same public inputs. If so, it is a problem if its trace is another.
-fn has_known_trace(
+// Checks that the run has the same trace as the run of the first line with its public inputs.
+fn check_trace<'a>(
     alloc: Global,
     subject: Subject<'_>,
-    firsts: &[First],
+    firsts: &mut Firsts<'a>,
+    line: Line<'a>,
     inputs: &Inputs,
-) -> Result<bool, Problem>
+) -> Result<(), Problem>
     requires in_range { IsInRange subject.accepted.now }
     requires fits { FitsObject subject.accepted.now inputs.now }
 {
-    let symbols = subject.accepted.object().symbols();
-    for other in firsts {
-        if agree_on_public(symbols, &other.inputs, inputs) {
-            compare_with(alloc, subject, other, inputs)?;
-            return Ok(true);
-        }
+    let public = public_words(alloc, subject.accepted.object().symbols(), inputs)?;
+    if let Some(first) = firsts.get(&public) {
+        return compare_with(alloc, subject, *first, inputs);
     }
-    Ok(false)
+    firsts.insert(public, line)?;
+    Ok(())
 }
 
 fn compare_with(
     alloc: Global,
     subject: Subject<'_>,
-    other: &First,
+    first: Line<'_>,
     inputs: &Inputs,
 ) -> Result<(), Problem>
     requires in_range { IsInRange subject.accepted.now }
     requires fits { FitsObject subject.accepted.now inputs.now }
 {
     let wants = subject.accepted.object().wants(alloc)?;
-    let first = other.case.inputs(alloc, &wants)?;
+    let case = Case::of(alloc, first.text)?;
+    let others = case.inputs(alloc, &wants)?;
     let run = RunWords {
         cycles: subject.cycles,
         seed: 0,
         recursive: false,
     };
-    match compare_runs::<SeededOram>(alloc, subject.accepted, &first, inputs, run)? {
+    match compare_runs::<SeededOram>(alloc, subject.accepted, &others, inputs, run)? {
         Comparison::Equal { .. } => Ok(()),
-        Comparison::Differ { events, .. } => Err(shown(alloc, other.line, events)),
+        Comparison::Differ { events, .. } => Err(another_trace(alloc, first.number, events)),
     }
 }
 
-fn shown(alloc: Global, line: usize, events: u32) -> Problem {
+fn another_trace(alloc: Global, line: usize, events: u32) -> Problem {
     let event = u64::from(events) + 1;
-    match format!(in alloc; "the trace differs from that of line {line} at event {event}") {
+    match format!(in alloc; "the trace differs from the trace of line {line} at event {event}") {
         Ok(text) => Problem::Says(text),
         Err(_) => Problem::NoMemory,
     }
-}
-
-// Whether two inputs have the same words for each public symbol.
-fn agree_on_public(symbols: &[Symbol], first: &Inputs, second: &Inputs) -> bool {
-    for (number, symbol) in symbols.iter().enumerate() {
-        if symbol.label == Label::Public && words_of(first, number) != words_of(second, number) {
-            return false;
-        }
-    }
-    true
 }
