@@ -1,4 +1,4 @@
-/* Where the variables of a compiled program are stored (docs/FORMATS.md, "The layout of compiled programs"). */
+/* Where the variables of a compiled program are stored (docs/PERFORMANCE.md, "Where variables are stored"). */
 #ifndef LAYOUT_H
 #define LAYOUT_H
 

@@ -1,4 +1,5 @@
-/* The layout of `compile --fast`, which keeps short arrays in the scratchpad (docs/FORMATS.md, "The layout with --fast"). */
+/* The layout of `compile --fast`, which keeps short arrays in the scratchpad (docs/PERFORMANCE.md, "Which arrays `--fast`
+ * makes resident"). */
 #ifndef RESIDENTS_H
 #define RESIDENTS_H
 

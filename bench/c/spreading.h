@@ -1,4 +1,4 @@
-/* Arrays of several blocks with `compile --fast` (docs/FORMATS.md, "The layout with --fast"). */
+/* Arrays of several blocks with `compile --fast` (docs/PERFORMANCE.md, "Which arrays `--fast` makes resident"). */
 #ifndef SPREADING_H
 #define SPREADING_H
 

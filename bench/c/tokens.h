@@ -1,4 +1,4 @@
-/* The tokens of source texts (docs/FORMATS.md, "The source language"). */
+/* The tokens of source texts (docs/LANGUAGE.md, "Tokens"). */
 #ifndef TOKENS_H
 #define TOKENS_H
 
