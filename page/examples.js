@@ -153,21 +153,21 @@ const EXAMPLES = {
  }
 };
 const USAGES = {
- "check": "check OBJ",
- "trace": "trace OBJ INPUT [--cycles N] [--seed S] [--paths] [--recursive]",
- "run": "run OBJ INPUT OUT [--cycles N] [--seed S] [--recursive]",
- "asm": "asm TEXT OUT",
- "dis": "dis OBJ OUT",
- "eval": "eval SRC INPUT OUT [--turns N] [--procs]",
  "compile": "compile SRC OUT [--fast] [--block-log W] [--window P:O:C] [--procs]",
- "sample": "sample ITEMS OUT [--fast] [--seed S]",
- "bus": "bus OBJ INPUT .. [--cycles N] [--seed S]",
- "infer": "infer OBJ OUT",
+ "check": "check OBJ",
+ "run": "run OBJ INPUT OUT [--cycles N] [--seed S] [--recursive]",
+ "trace": "trace OBJ INPUT [--cycles N] [--seed S] [--paths] [--recursive]",
  "diff": "diff OBJ INPUT INPUT [--cycles N] [--seed S] [--paths] [--recursive]",
- "count": "count OBJ INPUT [--cycles N] [--seed S] [--paths] [--recursive]",
+ "eval": "eval SRC INPUT OUT [--turns N] [--procs]",
+ "test": "test SRC CASES [--fast] [--block-log W] [--window P:O:C] [--procs] [--cycles N]",
  "layout": "layout SRC [--fast] [--block-log W] [--window P:O:C] [--procs]",
  "listing": "listing SRC [--fast] [--block-log W] [--window P:O:C] [--procs]",
  "profile": "profile SRC INPUT [--fast] [--block-log W] [--window P:O:C] [--procs] [--cycles N]",
- "test": "test SRC CASES [--fast] [--block-log W] [--window P:O:C] [--procs] [--cycles N]",
- "expand": "expand SRC"
+ "count": "count OBJ INPUT [--cycles N] [--seed S] [--paths] [--recursive]",
+ "expand": "expand SRC",
+ "asm": "asm TEXT OUT",
+ "dis": "dis OBJ OUT",
+ "infer": "infer OBJ OUT",
+ "bus": "bus OBJ INPUT .. [--cycles N] [--seed S]",
+ "sample": "sample ITEMS OUT [--fast] [--seed S]"
 };
