@@ -1,6 +1,6 @@
 //! A call of the program that met a fault: which of its files are read again, and the words about each.
 
-ghost use Rattle.std.specs.Prelude.{◌≡◌, ◌≤◌, true, IfOk, IfSome, All};
+ghost use Rattle.std.specs.Prelude.{◌≡◌, true, IfOk, IfSome, All};
 ghost use Rattle.gr_word.specs.Prelude.{AreVariables};
 ghost use Rattle.explain_words.specs.FaultyFiles.{MayHaveFault, MayHaveWarnings};
 ghost use Rattle.fault_texts.specs.Plain.{IsPlain};
@@ -9,7 +9,7 @@ use crate::cases::explain_cases;
 use crate::duplicates::warn_of_inputs;
 use crate::inputs::{explain_inputs, variables_of_object, variables_of_source};
 use crate::usage::{Sorted, explain_usage};
-use fault_texts::{Words, is_word_of, put_other_kind};
+use fault_texts::{FileKind, Words, is_word_of, put_other_kind};
 use gr_base::Memory;
 use gr_word::Want;
 use object_faults::{

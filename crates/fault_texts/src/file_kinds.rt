@@ -1,5 +1,7 @@
 //! The kinds of files, and what kind some bytes seem to be, by their first words.
 
+ghost use Rattle.std.specs.Prelude.{◌≤◌};
+
 use crate::texts::{is_word_of, length_up_to, piece};
 use crate::words::Words;
 

@@ -1,6 +1,6 @@
 //! Places in a text, and how they are shown.
 
-ghost use Rattle.std.specs.Prelude.{◌≡◌, ◌≤◌, length, take, drop};
+ghost use Rattle.std.specs.Prelude.{◌≡◌, ◌≤◌, ◌-◌, length, take, drop};
 
 use crate::words::Words;
 

@@ -5,7 +5,7 @@ use crate::procedures::{Procedure, Procedures};
 use crate::statements::Declared;
 use crate::tokens::Tokens;
 use crate::warned_tokens::tokens_to_warn;
-use fault_texts::{Words, spot_at};
+use fault_texts::{WarningCount, Words, spot_at};
 use gr_base::Memory;
 use src_lexer::Kind;
 use std::alloc::Global;
