@@ -3,15 +3,15 @@
 ghost use Rattle.std.specs.Prelude.{◌≡◌, ◌⊎◌, IfOk};
 ghost use Rattle.lt_isa.specs.Prelude.{ProfileFits};
 
-use crate::code_rows::{CodeRows, START_AND_END, rows_of_code};
+use crate::code_rows::{CodeRows, START_AND_END, other_form, rows_of_code};
 use crate::profile_lines::push_number;
-use crate::reports::{Report, other_form};
 use crate::source_texts::{piece, push_ascii};
-use crate::sources::{ReadSource, SourceWords};
 use gr_base::Memory;
 use line_costs::Part;
 use lt_assembler::disassemble;
 use lt_isa::{Instr, Object, latency};
+use run_tools::reports::Report;
+use run_tools::sources::{ReadSource, SourceWords};
 use std::alloc::Global;
 
 /// The most bytes of a source line that are printed.

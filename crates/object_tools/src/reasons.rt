@@ -3,9 +3,7 @@
 ghost use Rattle.std.specs.Prelude.{◌≡◌, IfOk, length};
 ghost use Rattle.lt_isa.specs.Prelude.{ProfileFits};
 
-use crate::source_texts::{Access, SourceText};
-use crate::sources::{ReadSource, SourceWords};
-use crate::variables::{label_text, number_of, push_name};
+use crate::source_texts::{Access, SourceText, push_ascii};
 use bank_alloc::banks;
 use call_steps::targets::Target;
 use compiled_objects::fast_plan;
@@ -13,6 +11,8 @@ use flow_types::Typed;
 use gr_base::Memory;
 use gr_word::{Name, Shape};
 use lt_isa::{BankKind, Object, Symbol, bank_kind};
+use run_tools::sources::{ReadSource, SourceWords};
+use run_tools::variables::{label_text, number_of};
 use scratch_alloc::{Pin, SlotPlan, slots};
 use src_tree::Decl;
 use std::alloc::Global;
@@ -210,7 +210,7 @@ impl Reasons<'_> {
             if other != number && *own == slot {
                 if sharers < MOST_NAMED {
                     text.push_str(if sharers == 0 { ", shared with " } else { ", " })?;
-                    push_name(text, self.source.name_of(other, &decl.name))?;
+                    push_ascii(text, self.source.name_of(other, &decl.name).bytes())?;
                 }
                 sharers = sharers.saturating_add(1);
             }
@@ -232,7 +232,7 @@ fn push_place(
 ) -> Result<(), Memory> {
     text.push_str(label_text(symbol.label))?;
     text.push_str(" ")?;
-    push_name(text, name)?;
+    push_ascii(text, name.bytes())?;
     let length = symbol.length;
     if let Shape::Array = symbol.shape {
         text.push_str(format!(in alloc; "[{length}]")?.as_str())?;
