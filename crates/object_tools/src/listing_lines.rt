@@ -67,10 +67,7 @@ pub fn listing_report(
 // The listing of an object, with the row of each of its instructions.
 fn listing_text(alloc: Global, object: &Object, rows: &CodeRows) -> Result<String, Memory> {
     let assembly = disassemble(alloc, object)?;
-    let mut lines = Vec::new(alloc);
-    for line in rows.source.text.split(|byte| *byte == b'\n') {
-        lines.push(line)?;
-    }
+    let lines = lines_of(alloc, &rows.source.text)?;
     let mut listing = Listing {
         text: String::from_str(alloc, HEAD)?,
         place: 0,
@@ -89,6 +86,15 @@ fn listing_text(alloc: Global, object: &Object, rows: &CodeRows) -> Result<Strin
         }
     }
     Ok(listing.text)
+}
+
+// The lines of a text.
+fn lines_of<'a>(alloc: Global, text: &'a [u8]) -> Result<Vec<&'a [u8]>, Memory> {
+    let mut lines = Vec::new(alloc);
+    for line in text.split(|byte| *byte == b'\n') {
+        lines.push(line)?;
+    }
+    Ok(lines)
 }
 
 impl<'a> Listing<'a> {

@@ -89,11 +89,16 @@ fn table_of(alloc: Global, tally: &Tally) -> Result<String, Memory> {
             text.push_str(format!(in alloc; "oram{bank} accessed {accesses}\n")?.as_str())?;
         }
     }
-    match tally.end {
+    push_end(alloc, &mut text, tally.end)?;
+    Ok(text)
+}
+
+fn push_end(alloc: Global, text: &mut String, end: End) -> Result<(), Memory> {
+    match end {
         End::Halted(at) => text.push_str(format!(in alloc; "halted {at}\n")?.as_str())?,
         End::Spent => text.push_str("spent\n")?,
     }
-    Ok(text)
+    Ok(())
 }
 
 fn memory_lines(alloc: Global, tally: &Tally) -> Result<String, Memory> {

@@ -107,14 +107,14 @@ fn push_head(
 ) -> Result<(), Memory> {
     let stamp = recorded.stamp;
     let line = match &recorded.event {
-        OwnedEvent::RamRead(block, _) => format!(in alloc; "{mark} {stamp} D r {block}\n")?,
-        OwnedEvent::RamWrite(block, _) => format!(in alloc; "{mark} {stamp} D w {block}\n")?,
-        OwnedEvent::EncRead(block) => format!(in alloc; "{mark} {stamp} E r {block}\n")?,
-        OwnedEvent::EncWrite(block) => format!(in alloc; "{mark} {stamp} E w {block}\n")?,
-        OwnedEvent::Oram(bank) => format!(in alloc; "{mark} {stamp} O{bank}\n")?,
-        OwnedEvent::Halt => format!(in alloc; "{mark} {stamp} H\n")?,
+        OwnedEvent::RamRead(block, _) => format!(in alloc; "{mark} {stamp} D r {block}\n"),
+        OwnedEvent::RamWrite(block, _) => format!(in alloc; "{mark} {stamp} D w {block}\n"),
+        OwnedEvent::EncRead(block) => format!(in alloc; "{mark} {stamp} E r {block}\n"),
+        OwnedEvent::EncWrite(block) => format!(in alloc; "{mark} {stamp} E w {block}\n"),
+        OwnedEvent::Oram(bank) => format!(in alloc; "{mark} {stamp} O{bank}\n"),
+        OwnedEvent::Halt => format!(in alloc; "{mark} {stamp} H\n"),
     };
-    text.push_str(line.as_str())?;
+    text.push_str(line?.as_str())?;
     Ok(())
 }
 

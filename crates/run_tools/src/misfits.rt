@@ -76,10 +76,9 @@ fn push_scalar(text: &mut String, value: &Value) -> Result<(), Memory> {
 // Adds why a value isn't a list of this many integers.
 fn push_array(alloc: Global, text: &mut String, length: u32, value: &Value) -> Result<(), Memory> {
     let Value::Array(values) = value else {
-        text.push_str(format!(in alloc;
-            " needs a list of {length} integers, but this is "
-        )?.as_str())?;
-        text.push_str(kind_of(value))?;
+        let kind = kind_of(value);
+        let needed = format!(in alloc; " needs a list of {length} integers, but this is {kind}")?;
+        text.push_str(needed.as_str())?;
         return Ok(());
     };
     let given = values.len();
@@ -88,6 +87,11 @@ fn push_array(alloc: Global, text: &mut String, length: u32, value: &Value) -> R
         text.push_str(needed.as_str())?;
         return Ok(());
     }
+    push_item(alloc, text, values)
+}
+
+// Adds which item of a list isn't an integer.
+fn push_item(alloc: Global, text: &mut String, values: &[Value]) -> Result<(), Memory> {
     if let Some(index) = values.iter().position(|item| item.as_i64().is_none()) {
         text.push_str(format!(in alloc; "[{index}]")?.as_str())?;
     }
