@@ -7,7 +7,7 @@ use Rattle.src_tree.specs.Prelude.{context_of, height_of, tree_weight, test_weig
 use Rattle.block_cache_gen.specs.declared.frames.CodeBuf.{CodeBuf}
 use Rattle.block_cache_gen.specs.declared.frames.Frame.{Frame}
 use Rattle.block_cache_gen.specs.declared.frames.Mode.{Mode}
-use Rattle.block_cache_gen.specs.Prelude.{IsAssignment, IsStatementFor, EmitsExpr, EmitsGuard, EmitsSet, Extends, Setting, base_mask, IsFrame, setting_of, HasWords, TestHasWords, SetHasWords}
+use Rattle.block_cache_gen.specs.Prelude.{IsAssignment, IsStatementFor, EmitsExpr, EmitsGuard, EmitsSet, Extends, Setting, base_mask, IsFrame, setting_of, HasWords, TestHasWords, SetHasWords, room_of}
 use Rattle.block_cache_gen.proofs.Extending.{expr_extends, guard_extends, set_extends}
 use Rattle.block_cache_gen.proofs.HomesOfFrames.{homes_fit, frame_banks}
 use Rattle.src_tree.proofs.ProgramStatements.{statement_typed, statement_low}
@@ -22,7 +22,8 @@ banks_of f = length f.places.now.blocks.items
 
 -- the code of an expression extends what was there
 pub frame_expr : (f : Frame) (s : Setting) (mode : Mode) (to : ℕ) (e : Tree) (a b : CodeBuf)
-    → IsFrame f → s ≡ setting_of f → TypedTree (context_of f.program.now.decls.items) e → to + height_of e ≤ 17
+    → IsFrame f → s ≡ setting_of f → TypedTree (context_of f.program.now.decls.items) e
+    → to + height_of e ≤ room_of (setting_of f)
     → length a.code.items + 120 * tree_weight e ≤ most_instructions → EmitsExpr s mode (base_mask s) to e a b → HasWords e
     → Extends (banks_of f) mode (tree_weight e) a b
 frame_expr f s mode to e a b is same typed low room x words =
@@ -32,7 +33,8 @@ frame_expr f s mode to e a b is same typed low room x words =
 -- so does that of a guard
 pub frame_guard : (f : Frame) (s : Setting) (mode : Mode) (to : ℕ) (t : Test) (a b : CodeBuf)
     → IsFrame f → s ≡ setting_of f
-    → TypedTest (context_of f.program.now.decls.items) t → to + height_of t.left ≤ 17 → to + 1 + height_of t.right ≤ 17
+    → TypedTest (context_of f.program.now.decls.items) t → to + height_of t.left ≤ room_of (setting_of f)
+    → to + 1 + height_of t.right ≤ room_of (setting_of f)
     → length a.code.items + 120 * test_weight t ≤ most_instructions → EmitsGuard s mode to t a b → TestHasWords t
     → Extends (banks_of f) mode (test_weight t) a b
 frame_guard f s mode to t a b is same typed low lower room x words =
