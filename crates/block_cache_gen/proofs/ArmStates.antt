@@ -13,7 +13,7 @@ use Rattle.lt_isa.specs.Prelude.{Parts, is_ram, block_words}
 use Rattle.symbolic_values.specs.Prelude.{Value, SlotAt}
 use Rattle.src_tree.specs.Prelude.{context_of}
 use Rattle.stretches.specs.Prelude.{Show}
-use Rattle.trace_patterns.specs.Prelude.{Entry, SymSlot, AnySlot, RamSlot, EramSlot, OramSlot, SymState, tree_held, slot_held, hold_slot, slot_bank}
+use Rattle.trace_patterns.specs.Prelude.{Entry, SymSlot, AnySlot, RamSlot, SymState, tree_held, slot_held, hold_slot, slot_bank}
 use Rattle.stretches.proofs.ArmCode.{Walked}
 use Rattle.block_cache_gen.specs.Prelude.{Home, Setting, held_label, home_of, pin_of, IsPin, IsResidentHome, Serves, PlainSlot, EncryptedSlot, ObliviousSlot, HasHomes, CarriesInArm, held_tree, Loads, then_loads, one_load, word_read, pinned_slot, first_kept}
 use Rattle.bank_alloc.specs.Prelude.{scalar_bank}

@@ -6,6 +6,7 @@ use Rattle.lt_isa.specs.declared.instructions.Instr.{Instr}
 use Rattle.lt_isa.specs.declared.symbols.Note.{Note}
 use Rattle.src_tree.specs.Prelude.{context_of, height_of, LowStatement, Tree, Test, Statement, SetVariable, SetElement, Choice, Loop, Source, source_of, TypedTree, TypedTest, TypedStatement, DeclaredOnce}
 use Rattle.held_registers.specs.Prelude.{IsSoundHeld}
+use Rattle.held_registers.proofs.Sound.{nothing-sound}
 use Rattle.block_cache_gen.specs.declared.frames.CodeBuf.{CodeBuf}
 use Rattle.block_cache_gen.specs.declared.frames.Frame.{Frame}
 use Rattle.block_cache_gen.specs.declared.frames.Mode.{Mode}
@@ -178,6 +179,7 @@ frame-set_promises f s mode t a b is same assigns stands x =
     let p = source_of f.program.now in
     let typed = statement_typed p stands.code t is.typed stands.stands in
     let low = statement_low p stands.code t is.within stands.stands in
+    let held = nothing-sound p.decls in
     let public = set_of_statement g t (frame_public f is stands.code t stands.stands) in
     let y : EmitsSet g mode t a b = let P : Setting → Type 0 = λ u. EmitsSet u mode t a b in subst P same x in
     let inside : ¬ (mode ≡ Public) → TypedStatement (context_of g.decls) label.Secret t = (λ secret.
@@ -192,11 +194,11 @@ frame-set_promises f s mode t a b is same assigns stands x =
           subst P (sym public_mode) (set-passed g is.typed.once stands.code t assigns typed public low place);
       walked = λ secret. set-walked g mode (secret_mode mode secret) t (inside secret) public low;
       stores = set-stores g mode t assigns;
-      writes = set-writes g is.held mode t assigns low;
-      instructions = own-code g is.held mode t;
+      writes = set-writes g held mode t assigns low;
+      instructions = own-code g held mode t;
       twin = λ secret. record {
         twin = set_code g (other_mode mode) t;
-        same = are-twins g is.held mode t;
+        same = are-twins g held mode t;
         performs = assignment-performs g (other_mode mode) stands.code t assigns typed low;
         walked = set-walked g (other_mode mode) (other_secret mode secret) t (inside secret) public low;
       };

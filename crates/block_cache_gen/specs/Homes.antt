@@ -81,15 +81,15 @@ pin_at f slot = slice_index_or f.pins slot None
 abbrev pub register_for : Setting → List ℕ → Option ℕ
 register_for f x = register_of_scalar f.held (variable_number f.decls x)
 
--- Expressions use the registers below the first one that holds something for the whole run, which is register 19, and
--- those below 28 if none does. If the sum of a register and the height of an expression is within the room, the code
--- that leaves the expression's value in that register uses no other register: it uses those from this one on, and two
--- more than the height.
-abbrev pub room_of : Setting → ℕ
-room_of f = 17 + (9 - 9 * length f.held)
-
+-- The first register that the code of expressions leaves as it is: register 19 if registers from there on hold
+-- something for the whole run, and register 28 if none does. Code that leaves the value of an expression in a register
+-- uses registers from this one on, two more than the expression's height. So the sum of that register's number and the
+-- height may be as great as the room.
 abbrev pub first_kept : Setting → ℕ
 first_kept f = 19 + (9 - 9 * length f.held)
+
+abbrev pub room_of : Setting → ℕ
+room_of f = 17 + (9 - 9 * length f.held)
 
 -- the label that a register has for the whole run, None if it holds nothing for the whole run
 abbrev pub label_by : List Decl → Option Held → Option Label

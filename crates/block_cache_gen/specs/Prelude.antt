@@ -29,8 +29,8 @@ pub use Rattle.block_cache_gen.specs.RunsOf.{BeginsCode, Evaluates, EvaluatesTes
 pub use Rattle.block_cache_gen.specs.SecretCode.{ArmWalk}
 unfoldable pub use Rattle.block_cache_gen.specs.SecretCode.{IsWalkedAsExpr, IsWalkedAsSet, IsWalkedAsTest}
 unfoldable pub use Rattle.block_cache_gen.specs.ServedBlocks.{block_served, first_blocks, pin_in, pin_or}
-pub use Rattle.block_cache_gen.specs.Settings.{IsFrame}
-unfoldable pub use Rattle.block_cache_gen.specs.Settings.{four_slots, further_blocks, home_at, homes_at, is_pin_to, is_pinned, plan_of, setting_for, setting_of, slot_from}
+pub use Rattle.block_cache_gen.specs.Settings.{IsFrame, IsSetUp}
+unfoldable pub use Rattle.block_cache_gen.specs.Settings.{IsFastFrame, fast_plan_of, fast_setting, four_slots, further_blocks, home_at, homes_at, is_pin_to, is_pinned, plan_of, setting_for, setting_of, slot_from}
 pub use Rattle.block_cache_gen.specs.StandsFor.{FitsHomes, HoldsBank, HoldsBlock, IsBlockOf, StandsFor}
 unfoldable pub use Rattle.block_cache_gen.specs.StoredWords.{counts_as_store, is_held_register, is_store, is_write, mode_writes, set_stores, stored_words, stores_by, stores_in, written_words}
 unfoldable pub use Rattle.block_cache_gen.specs.TreeWords.{HasWords, SetHasWords, TestHasWords}
