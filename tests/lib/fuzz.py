@@ -26,7 +26,7 @@ WIDE_SECONDS = 15
 PROGRAM_BYTES = 16 << 20
 
 # Two looping cores take about as long on a bus as in separate runs. The check of a large region takes up to seven bytes for each
-# byte of the object (docs/RUNNING.md), beside the program's own code.
+# byte of the object (docs/OPERATIONS.md), beside the program's own code.
 BUS_RATIO, REGION_BYTES, CODE_BYTES = 2, 6, 1 << 23
 
 STATUSES = {
