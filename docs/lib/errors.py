@@ -68,6 +68,8 @@ def prints(program, block):
         for line in block[1:]:
             explained.make_file(program, ROOT, line, folder)
         _, text, words = explained.called(program, ['--json', *call_of(block)], folder)
+        if not words:
+            raise Stale(f'nothing is explained for {" ".join(call_of(block))}: {text.decode()}')
         return text.decode(), json.loads(words.decode().splitlines()[-1])
 
 
