@@ -1,0 +1,5 @@
+pub mod Scopes
+pub mod Shapes
+pub mod Scoping
+pub mod Lowered
+mod Example
