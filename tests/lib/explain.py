@@ -1,5 +1,4 @@
 """The work of tests/explain. Words: the program, the root, how many damaged files of each kind, and the seed."""
-import json
 import os
 import random
 import re
@@ -12,83 +11,21 @@ PROGRAM, ROOT = sys.argv[1:3]
 COUNT, SEED = int(sys.argv[3]), int(sys.argv[4])
 sys.argv[1:] = [PROGRAM, f'{ROOT}/examples', '0', str(SEED)]
 import fuzz  # noqa: E402  which reads the words above
+import explained  # noqa: E402
 import many  # noqa: E402
+from explained import SECONDS, Failed, agree, make_file, rows_of  # noqa: E402
 from many import place, read, write  # noqa: E402
+from places import misplaced  # noqa: E402
 
-SECONDS = 60
 with open(f'{ROOT}/program/version', 'rb') as number:
     VERSION = b'ghostrider ' + number.read()
 
-class Failed(Exception):
-    """A case that doesn't hold."""
-
 
 def called(words, folder):
-    """A call of the program: its status, and what standard output and standard error got."""
-    ran = subprocess.run([PROGRAM, *words], cwd=folder, stdin=subprocess.DEVNULL, stdout=subprocess.PIPE,
-                         stderr=subprocess.PIPE, timeout=SECONDS)
-    return ran.returncode, ran.stdout, ran.stderr
-
-
-# ---- lines of JSON
-
-MEMBERS = ['status', 'file', 'line', 'column', 'reason', 'hint']
-
-
-def rows_of(words):
-    """The objects of the lines of JSON that standard error got."""
-    rows = [json.loads(line) for line in words.decode('ascii').split('\n')[:-1]]
-    for row in rows:
-        if list(row) != MEMBERS or (row['file'] is None) != (row['line'] is None) or row['reason'] == '':
-            raise Failed(f'{row}')
-    return rows
-
-
-def shown(row):
-    """The first line of the words of which a line of JSON was made."""
-    place = '' if row['file'] is None else f"{row['file']}:{row['line']}:{row['column']}: "
-    return place + ('warning: ' if row['status'] == 0 else '') + row['reason']
-
-
-def agree(status, words, lines):
-    """Whether lines of JSON say what the words say."""
-    rows, first = rows_of(lines), words.decode('ascii').splitlines()
-    if any(row['status'] != status for row in rows):
-        return False
-    if status == 0:
-        return [shown(row) for row in rows] == [line for line in first if ': warning: ' in line]
-    return len(rows) == 1 and (rows[0]['reason'] is None or shown(rows[0]) == first[0])
+    return explained.called(PROGRAM, words, folder)
 
 
 # ---- cases
-
-ESCAPE = re.compile(r'\\(x[0-9a-f]{2}|.)')
-PLAIN = {'t': b'\t', 'r': b'\r', '\\': b'\\', 'c': b''}
-
-
-def bytes_of(line):
-    """The bytes of a line of a file."""
-    out, at = b'', 0
-    for found in ESCAPE.finditer(line):
-        out += line[at:found.start()].encode()
-        name = found.group(1)
-        out += bytes([int(name[1:], 16)]) if name[0] == 'x' and len(name) > 1 else PLAIN[name]
-        at = found.end()
-    return out + line[at:].encode() + (b'' if line.endswith('\\c') else b'\n')
-
-
-def change(folder, name, how):
-    path = os.path.join(folder, name)
-    with open(path, 'rb') as file:
-        data = bytearray(file.read())
-    with open(path, 'wb') as file:
-        file.write(how(data))
-
-
-def with_byte(data, at, byte):
-    data[at] = byte
-    return data
-
 
 def play(lines, folder):
     """Plays the lines of a case."""
@@ -96,19 +33,9 @@ def play(lines, folder):
     for line in lines:
         verb, _, rest = line.partition(' ')
         parts = rest.split()
-        if verb in ('text', 'input', 'asm'):
-            with open(os.path.join(folder, verb), 'ab') as file:
-                file.write(bytes_of(rest))
-        elif verb == 'make':
-            if called(['asm', 'asm', parts[0]], folder)[0] != 0:
-                raise Failed('the text is not assembled')
-        elif verb == 'take':
-            shutil.copy(f'{ROOT}/examples/{parts[1]}', os.path.join(folder, parts[0]))
-        elif verb == 'cut':
-            change(folder, parts[0], lambda data: data[:int(parts[1])])
-        elif verb == 'put':
-            change(folder, parts[0], lambda data: with_byte(data, int(parts[1]), int(parts[2])))
-        elif verb == 'call':
+        if make_file(PROGRAM, ROOT, line, folder):
+            continue
+        if verb == 'call':
             status, text, words = called(parts[1:], folder)
             if status != int(parts[0]):
                 raise Failed(f'the program ends with {status}, {text!r}')
@@ -178,6 +105,12 @@ def are_said(status, words):
     return bool(words) if status else all(b': warning: ' in line or MORE.fullmatch(line) for line in words.splitlines())
 
 
+def is_misplaced(status, text, data, words):
+    """Whether an explanation names another place of the damaged file than the line of its fault."""
+    line = text.decode('latin-1').rstrip('\n')
+    return status in (6, 7, 8, 9, 12) and misplaced(line, 'file', data, words) is not None
+
+
 def attempt(named):
     kind, number = named
     chance = random.Random(f'{SEED} {kind} {number}')
@@ -193,7 +126,8 @@ def attempt(named):
         except (subprocess.TimeoutExpired, Failed, ValueError) as why:
             wrong.append(f'{call}: {why}')
             continue
-        if not are_said(status, words) or not lies_within(words, data) or not agrees:
+        holds = are_said(status, words) and lies_within(words, data) and agrees
+        if not holds or is_misplaced(status, line, data, words):
             wrong.append(f'{call}: {line[-80:]!r}: {words[:200]!r}: {lines[:200]!r}')
     if wrong:
         descriptor, kept = tempfile.mkstemp(prefix='explain-')
@@ -243,7 +177,7 @@ SHELL = [  # a title, a line of the shell, its status, standard output, and what
      b'{"status":4,"file":null,"line":null,"column":null,"reason":"standard output: No space left on device","hint":null}\n', None),
     ('an object', './gr check bad.gr', 6, b'fault 6 object magic\n', b'It is a source'),
     ('a refused object', './gr check examples/leaks.obj', 7, b'fault 7 refused 4 2\n', b'stw r2 0 r1'),
-    ('usage', './gr run x', 2, b'fault 2 usage\n', b'run: the word INPUT is missing'),
+    ('usage', './gr run x', 2, b'fault 2 usage\n', b'run: missing argument INPUT\nusage: ghostrider run OBJ INPUT OUT '),
     ('no verb', './gr frob', 2, b'fault 2 usage\n', b'frob is not a verb\nThe verbs are compile, check, run, '),
     ('an option of other verbs', './gr run good.obj good.json out --fast', 2, b'fault 2 usage\n',
      b'ghostrider: run: --fast is not an option of this verb\nIt is an option of compile, test, layout, listing, profile and '
