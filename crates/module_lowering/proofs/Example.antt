@@ -15,13 +15,12 @@ use Rattle.module_tree.proofs.TestedBelow.{all_below, tested}
 use Rattle.module_calls.specs.Inlining.{inlines_at}
 use Rattle.module_calls.specs.Rules.{ObeysRules, pure_at}
 use Rattle.module_calls.specs.FirstAssignments.{before_start}
-use Rattle.module_calls.specs.Promise.{flattened}
 use Rattle.flat_tree.specs.Trees.{Term, Number, Scalar, Element, Operation, Select, Statement}
 use Rattle.flat_core.specs.Promise.{Sized}
 use Rattle.module_lowering.specs.Lowering.{lowered_module}
-use Rattle.module_lowering.specs.Shape.{NamesTheRest, Scoped, is_scoped}
+use Rattle.module_lowering.specs.Naming.{single_at, SetsScalars}
+use Rattle.module_lowering.specs.Shape.{NamesTheRest}
 use Rattle.module_lowering.specs.Promise.{Computes, Declares, locals_of}
-use Rattle.module_lowering.proofs.Scoping.{scoped_sound}
 use Rattle.module_lowering.proofs.Lowered.{lowers}
 
 -- all that the core lacks becomes a variable
@@ -81,18 +80,15 @@ unfolding int_wrap known_at inlines_at looped example example_items example_func
 spent = refl
 
 -- the premises
-is_scalar : ℕ → Bool
-is_scalar k = (k == 0) || (k == 2)
-
 obeys : ObeysRules example
 unfolding example example_items example_functions number role pure_at
 obeys = refl
 
-scoped : Scoped 4 is_scalar [] (flattened example (7 ∷ []))
-unfolding inlines_at known_at example example_items example_functions number role is_scalar
-scoped = scoped_sound 4 is_scalar [] (flattened example (7 ∷ [])) refl
+sets : SetsScalars example
+unfolding example example_items example_functions number role
+sets = refl
 
-few : locals_of always_light needs_name example (7 ∷ []) ≡ 9
+few : locals_of always_light needs_name example (7 ∷ []) ≡ 8
 unfolding inlines_at known_at example example_items example_functions number role needs_name always_light
 few = refl
 
@@ -103,7 +99,7 @@ all_named : all_below is_named 20 ≡ true
 unfolding is_named decls declared named
 all_named = refl
 
-declares : Declares decls named 4 9
+declares : Declares decls named 4 8
 unfolding is_named
 declares p lt = eqb-true (variable_number decls (named p)) p (tested is_named 20 p (omega (arith, lt)) all_named)
 
@@ -111,15 +107,15 @@ is_single : ℕ → Bool
 is_single p = length (words_of_number start p) == 1
 
 is_fit : ℕ → Bool
-is_fit k = not (is_scalar k) || is_single k
+is_fit k = not (single_at example_items k) || is_single k
 
 all_fit : all_below is_fit 4 ≡ true
-unfolding is_fit is_single is_scalar start scalar
+unfolding is_fit is_single example_items number role start scalar
 all_fit = refl
 
-single : (k : ℕ) → is_fit k ≡ true → is_scalar k ≡ true → length (words_of_number start k) ≡ 1
+single : (k : ℕ) → is_fit k ≡ true → single_at example_items k ≡ true → length (words_of_number start k) ≡ 1
 unfolding is_fit is_single
-single k fits is = eqb-true (length (words_of_number start k)) 1 (by (is_scalar k) (is_single k) fits is)
+single k fits is = eqb-true (length (words_of_number start k)) 1 (by (single_at example_items k) (is_single k) fits is)
   where
     by : (a b : Bool) → (not a || b) ≡ true → a ≡ true → b ≡ true
     by true b e f = e
@@ -132,7 +128,7 @@ all_local : all_below is_local 16 ≡ true
 unfolding is_local start scalar
 all_local = refl
 
-local : (p : ℕ) → 4 ≤ p → p < 4 + 9 → length (words_of_number start p) ≡ 1
+local : (p : ℕ) → 4 ≤ p → p < 4 + 8 → length (words_of_number start p) ≡ 1
 unfolding is_local
 local p le lt =
     let e : 4 + (p - 4) ≡ p = omega (arith, le) in
@@ -140,7 +136,7 @@ local p le lt =
     (tested is_local 16 (p - 4) (omega (arith, le, lt)) all_local) in
     subst (λ q. length (words_of_number start q) ≡ 1) e one
 
-room : Sized 4 9 is_scalar start
+room : Sized 4 8 (single_at example_items) start
 unfolding start scalar
 room = record {
   long = omega arith;
@@ -160,6 +156,6 @@ by_law : (turns : ℕ) → Computes 4 (module_meaning example (7 ∷ []) (λ k. 
     (meaning (lowered_module always_light needs_name decls named example (7 ∷ [])) start turns)
 unfolding example example_items
 by_law turns =
-    lowers always_light needs_name decls named is_scalar example (7 ∷ []) plain obeys scoped
+    lowers always_light needs_name decls named example (7 ∷ []) plain obeys sets
     (subst (Declares decls named 4) (sym few) declares) (λ k. None) turns start (λ k. inl refl)
-    (record { same = begins }) (subst (λ most. Sized 4 most is_scalar start) (sym few) room)
+    (record { same = begins }) (subst (λ most. Sized 4 most (single_at example_items) start) (sym few) room)

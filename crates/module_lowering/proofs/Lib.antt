@@ -1,5 +1,5 @@
 pub mod Scopes
 pub mod Shapes
-pub mod Scoping
+pub mod InlinedScopes
 pub mod Lowered
 mod Example

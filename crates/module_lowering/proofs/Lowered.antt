@@ -1,4 +1,4 @@
--- The passes compose.
+-- The core program that a module becomes does what the module means: the laws of all passes, composed.
 use Rattle.std.proofs.Common.{◌≡◌, ℕ, ◌+◌, ◌<◌, ◌≤◌, Bool, true, List, [], length, Option, Some, None, refl, sym, ◌∙◌, subst, arith}
 use Rattle.std.specs.Option.{option_map}
 use Rattle.src_tree.specs.declared.trees.Decl.{Decl}
@@ -22,9 +22,11 @@ use Rattle.flat_passes.proofs.KeptValues.{values_keep}
 use Rattle.flat_core.specs.Promise.{Agrees, LeftAlike}
 use Rattle.flat_core.proofs.Running.{core_keeps}
 use Rattle.module_lowering.specs.Lowering.{above, prepared, lowered_module}
-use Rattle.module_lowering.specs.Shape.{NamesTheRest, Scoped}
+use Rattle.module_lowering.specs.Naming.{single_at, SetsScalars}
+use Rattle.module_lowering.specs.Shape.{NamesTheRest}
 use Rattle.module_lowering.specs.Promise.{Computes, BothSpent, BothLeft, Declares, locals_of, Lowers}
 use Rattle.module_lowering.proofs.Shapes.{prepared_shape}
+use Rattle.module_lowering.proofs.InlinedScopes.{flattened_scoped}
 use Rattle.flat_tree.specs.Keeps as flat
 use Rattle.module_calls.specs.Promise as calls
 use Rattle.flat_core.specs.Promise as core
@@ -56,18 +58,18 @@ three all n le (Some m) (Some r) (Some q) (Some t) (calls.BothLeft a) (flat.Both
     })
 
 pub lowers : (light : Statement → Bool) (needs_name : Term → Bool) (decls : List Decl) (name : ℕ → List ℕ)
-    (is_scalar : ℕ → Bool) (m : Module) (main : List ℕ) → NamesTheRest needs_name → ObeysRules m
-    → Scoped (length m.items) is_scalar [] (flattened m main)
+    (m : Module) (main : List ℕ) → NamesTheRest needs_name → ObeysRules m → SetsScalars m
     → Declares decls name (length m.items) (locals_of light needs_name m main)
-    → Lowers light needs_name decls name is_scalar m main
-lowers light needs_name decls name is_scalar m main plain obeys scoped named inputs turns store only agrees sized =
+    → Lowers light needs_name decls name m main
+lowers light needs_name decls name m main plain obeys sets named inputs turns store only agrees sized =
     let all = length m.items in
     let l : Memory = λ k. words_of_number store k in
     let s = flattened m main in
+    let is_scalar = single_at m.items in
     three all (above all s) (omega arith) (module_meaning m main inputs turns) (run s l turns)
     (run (prepared light needs_name all s) l turns) _
     (flattened_meaning m main obeys inputs turns l only (record { same = λ k lt. sym (agrees.same k lt) }))
     ((prepared_keeps light needs_name all s).alike l l turns (agree_same _ l))
     (core_keeps decls all (locals_of light needs_name m main) name is_scalar named (prepared light needs_name all s)
-    (prepared_shape all is_scalar needs_name plain light all s scoped) l store turns
+    (prepared_shape all is_scalar needs_name plain light all s (flattened_scoped m main sets)) l store turns
     (record { same = λ k lt. refl }) sized)

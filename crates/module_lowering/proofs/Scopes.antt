@@ -8,7 +8,7 @@ use Rattle.flat_passes.specs.Conditions.{choice, one_or_zero, assigned, declared
 use Rattle.module_lowering.specs.Shape.{ScopedTerm, Scoped}
 
 -- a scope within a larger one
-pub record Inside (all : ℕ) (scope larger : List ℕ) : Type 0 where
+pub record Inside (all : ℕ) (scope larger : List ℕ) : Type 1 where
   pub grows : (P : ℕ → Type 0) (k : ℕ) → InScope all P scope k → InScope all P larger k
 
 pub inside_same : (all : ℕ) (scope : List ℕ) → Inside all scope scope
@@ -100,7 +100,10 @@ module _ (all : ℕ) (is_scalar : ℕ → Bool) where
     declared_scoped scope k e body is more =
         either_scoped scope (reads k e) (Local k e body) (Local k (Number (pos 0)) (Seq (assigned light k e) body))
         (is, more)
-        (tt, assigned_scoped (k ∷ scope) k e (inl refl) (term_larger (inside_more k (inside_same all scope)) e is), more)
+        (
+          tt,
+          (assigned_scoped (k ∷ scope) k e (inl refl) (term_larger (inside_more k (inside_same all scope)) e is), more),
+        )
 
     local_scoped : (scope : List ℕ) (k : ℕ) (e : Term) (body : Statement) → ScopedTerm all is_scalar scope e
         → Scoped all is_scalar (k ∷ scope) body → Scoped all is_scalar scope (with_local light k e body)

@@ -157,8 +157,7 @@ module _ (all : ℕ) (is_scalar : ℕ → Bool) where
       subst (λ x. CoreShape scope (if x then Local k e body
       else Local k (Number (pos 0)) (Seq (assigned all_light k e) body))) (sym (unread k e below)) (
         tt,
-        assigned_shape (k ∷ scope) k e (inl refl) (condition_larger (inside_more k (inside_same all scope)) e is),
-        more,
+        (assigned_shape (k ∷ scope) k e (inl refl) (condition_larger (inside_more k (inside_same all scope)) e is), more),
       )
 
   local_shape : (scope : List ℕ) (k : ℕ) (e : Term) (body : Statement) → Condition scope e → TermBelow k e
@@ -310,8 +309,8 @@ module _ (all : ℕ) (is_scalar : ℕ → Bool) where
         let one = core_larger all is_scalar (grown_inside m k.before inner) h.term g.term in
         let low = below_more {p = m + length k.before} (omega arith) h.term g.below in
         both_good shifted scope n h (counted b) g.before q.before
-        ((one, q.term), ((tt, q.term), tt), tt)
-        ((low, q.below), ((tt, q.below), tt), tt)
+        ((one, q.term), (((tt, q.term), tt), tt))
+        ((low, q.below), (((tt, q.below), tt), tt))
     hoisted_good (Operation (Machine op) a b) scope n is below =
         let h = named needs_name n (hoisted needs_name a n) in
         let m = n + length h.before in
@@ -466,8 +465,10 @@ module _ (all : ℕ) (is_scalar : ℕ → Bool) where
         locals_shape scope n h.before
         (While h.term (Seq (values needs_name n a) (set_again needs_name n h.before))) g.before (
           g.term,
-          values_shape a inner n (statement_larger all is_scalar (grown_inside n h.before scope) a is.1) below.1,
-          again_shape scope inner n h.before (inside_same all inner) g.before,
+          (
+            values_shape a inner n (statement_larger all is_scalar (grown_inside n h.before scope) a is.1) below.1,
+            again_shape scope inner n h.before (inside_same all inner) g.before,
+          ),
         )
     values_shape (Local k e a) scope n is below =
         let h = value_of needs_name n e in

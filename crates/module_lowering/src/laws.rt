@@ -2,10 +2,10 @@ ghost use Rattle.std.specs.Prelude.{ℕ, Bool, List, [], length};
 ghost use Rattle.src_tree.specs.declared.trees.Decl.{Decl};
 ghost use Rattle.module_tree.specs.Trees.{Module};
 ghost use Rattle.module_calls.specs.Rules.{ObeysRules};
-ghost use Rattle.module_calls.specs.Promise.{flattened};
 ghost use Rattle.flat_tree.specs.Trees.{Term, Statement};
 ghost use Rattle.flat_core.specs.Core.{CoreStatement};
 ghost use Rattle.module_lowering.specs.Lowering.{prepared};
+ghost use Rattle.module_lowering.specs.Naming.{SetsScalars};
 ghost use Rattle.module_lowering.specs.Shape.{depth, NamesTheRest, Scoped};
 ghost use Rattle.module_lowering.specs.Promise.{Declares, locals_of, Lowers};
 
@@ -21,10 +21,10 @@ pub fn shape_law()
 /// A law: the core program that a module becomes does with the module's variables what the module means.
 pub fn lowering_law()
     ensures { (light : Statement → Bool) (needs_name : Term → Bool) (decls : List Decl) (name : ℕ → List ℕ)
-        (is_scalar : ℕ → Bool) (m : Module) (main : List ℕ)
+        (m : Module) (main : List ℕ)
         → NamesTheRest needs_name
         → ObeysRules m
-        → Scoped (length m.items) is_scalar [] (flattened m main)
+        → SetsScalars m
         → Declares decls name (length m.items) (locals_of light needs_name m main)
-        → Lowers light needs_name decls name is_scalar m main }
+        → Lowers light needs_name decls name m main }
 {}
