@@ -15,7 +15,7 @@ use Rattle.flat_tree.specs.Meaning.{State, value, holds, at, onward, restored, r
 use Rattle.flat_tree.proofs.Agreeing.{read_here}
 use Rattle.flat_tree.proofs.Writing.{written_twice}
 use Rattle.flat_core.specs.Core.{place, joined, core_term, core_test, core_block, InScope, Settable, CoreTerm, CoreTest, CoreStatement}
-use Rattle.flat_core.specs.Promise.{Sized, Agrees, LeftAlike, KeepsMeaning}
+use Rattle.flat_core.specs.Promise.{Sized, LeftAlike, KeepsMeaning}
 use Rattle.flat_core.proofs.Standing.{Stands, inner_scope, place_below, words_stand, stands_outside, written_stands}
 use Rattle.src_tree.specs.Prelude as core
 use Rattle.flat_tree.specs.Meaning as flat

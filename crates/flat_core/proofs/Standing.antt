@@ -1,5 +1,5 @@
--- A store of the core stands for a memory: each variable's words are those at its place, and a hidden variable's words
--- are kept where they were.
+-- The relation between a store of the core and a memory: each variable in scope has its words at its place, and the words
+-- of a hidden variable are kept where they were.
 use Rattle.std.proofs.Common.{◌≡◌, ℕ, ◌+◌, ◌<◌, ◌≤◌, Bool, true, false, if◌then◌else◌, ℤ, List, [], ◌∷◌, length, set, refl, sym, ap, ◌∙◌, subst, ⊎_elim, arith, get_or-set_same, get_or-set_other}
 use Rattle.std.specs.Prelude.{◌==◌}
 use Rattle.std.proofs.Math.Path.{fun_ext}
@@ -48,7 +48,7 @@ module _ (all : ℕ) (P : ℕ → Type 0) where
       by true e rest = s.0 ∙ ap m (sym (eqb-true k j e))
       by false e rest = rest (inner_scope scope k j e is) ∙ read_other m j k w (eqb-false k j e)
 
--- a word behind all places doesn't matter
+-- a word after all places doesn't matter
 pub stands_outside : (all : ℕ) (scope : List ℕ) (hidden : List (List ℤ)) (m : Memory) (store : Store) (p : ℕ) (ws : List ℤ)
     → all + length scope ≤ p → Stands all scope hidden m store → Stands all scope hidden m (set store p ws)
 stands_outside all [] [] m store p ws le s =

@@ -13,7 +13,8 @@ use Rattle.flat_passes.specs.Values.{Hoisted, named_if, is_leaf, named, two, hoi
 use Rattle.flat_passes.proofs.ShiftedValues.{shifted_value}
 use Rattle.flat_passes.proofs.Temporaries.{temporaries, temporaries_more, before_temporaries, split}
 
--- the value that is left, if the variables below p are those of m, and the new ones are set from number n on
+-- The term has the value, if the variables with numbers below p have the words of m, and the new variables from number n
+-- on are set.
 pub record Right (p n : ℕ) (v : Memory → ℤ) (h : Hoisted) : Type 0 where
   pub is : (m start l : Memory) → Agree p start m → Agree (n + length h.before) (temporaries n h.before start) l
       → value l h.term ≡ v m

@@ -1,4 +1,4 @@
--- Conditions that become choices leave everything as it was: the statements do exactly what they did.
+-- Statements do exactly the same after their conditions became choices.
 use Rattle.std.proofs.Common.{◌≡◌, ℕ, pos, ℤ, Bool, true, false, ◌&&◌, ◌||◌, if◌then◌else◌, [], ◌∷◌, Option, Some, refl, sym, ap, ◌∙◌}
 use Rattle.std.specs.Option.{option_and_then, option_map}
 use Rattle.std.proofs.Math.Path.{fun_ext}

@@ -1,4 +1,4 @@
--- What `>>>` becomes has the same value.
+-- The operations that replace `>>>` have the same value.
 use Rattle.std.proofs.Common.{◌≡◌, ℕ, ◌-◌, ◌%◌, ◌^◌, ◌<◌, ◌==◌, Bool, true, ℤ, negsuc, refl, ap, ◌∙◌, arith, w64}
 use Rattle.std.specs.Int.{cast_signed, int_bit_xor, int_shl, int_shr}
 use Rattle.std.specs.Int.Bits.{bit_and}

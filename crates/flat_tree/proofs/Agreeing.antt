@@ -34,7 +34,7 @@ read_here m k w = ap (λ b. if b then w else m k) (eq-eqb k k refl)
 pub read_other : (m : Memory) (k j : ℕ) (w : List ℤ) → (j ≡ k → ⊥) → with_words m k w j ≡ m j
 read_other m k j w ne = ap (λ b. if b then w else m j) (ne_eqb j k ne)
 
--- a variable behind the n is written
+-- a variable with number n or above is written
 pub agree_new : {n : ℕ} (m : Memory) (k : ℕ) (w : List ℤ) → n ≤ k → Agree n m (with_words m k w)
 agree_new m k w le = record { same = λ j lt. sym (read_other m k j w (λ e. omega (arith, e, le, lt))) }
 

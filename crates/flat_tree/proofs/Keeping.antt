@@ -1,5 +1,4 @@
--- The laws of `Keeps`: statements keep what they do themselves; passes in sequence; and a statement keeps what another
--- does if its parts do.
+-- The laws of `Keeps`: it is reflexive and transitive, and holds of two statements if it holds of their parts.
 use Rattle.std.proofs.Common.{◌≡◌, ℕ, ◌<◌, ◌≤◌, ℤ, Option, ap, ◌∙◌, subst}
 use Rattle.std.specs.Prelude.{slice_set}
 use Rattle.std.specs.Option.{option_map}

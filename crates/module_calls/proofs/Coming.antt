@@ -1,5 +1,5 @@
--- What a module evaluates and what the bindings before a statement do: both are spent, or both come to an end with as
--- many iterations left; then the variables below number n are as before, and the term has the value.
+-- The relation between the evaluation of an expression and its bindings. Both run out of iterations, or both end with the
+-- same number of iterations left; then the variables with numbers below n are unchanged, and the term has the value.
 use Rattle.std.proofs.Common.{◌≡◌, ℕ, ◌+◌, ◌≤◌, Bool, true, ℤ, List, [], ◌∷◌, ◌++◌, length, Option, Some, None, refl, sym, subst, arith}
 use Rattle.std.specs.Option.{option_and_then}
 use Rattle.std.proofs.lemmas.List.{length-append}
@@ -32,8 +32,8 @@ AreGiven all _ _ h = ⊥
 abbrev pub GivenComes : ℕ → ℕ → ℕ → Memory → List Passed → Option Given → Option State → Type 0
 GivenComes all n count l list = Comes n count l (λ (g : Given). g.turns) (λ g h. AreGiven all g.arguments list h)
 
--- what a call does, and what replaces it: the variables of the module are the same, the result has the word, and the
--- others below it are as before
+-- The relation between a call and the statements that replace it: the module's variables are the same, the result's
+-- variable has the word, and the other variables below it are unchanged.
 pub data CallComes (all r : ℕ) (l : Memory) : Option Called → Option State → Type 0 where
   NoCall : CallComes all r l None None
   OneCall : {c : Called} {s : State} → c.turns ≡ s.turns → Agree all c.memory s.memory → Outer all r l s.memory

@@ -1,10 +1,10 @@
--- How statements of a module and what they become end alike.
+-- The relation between the end of a module's statements and the end of the flat statements that they become.
 use Rattle.std.proofs.Common.{◌≡◌, ℕ, ◌+◌, ◌<◌, ◌≤◌, Bool, true, false, ◌||◌, ℤ, List, [], ◌∷◌, ◌++◌, length, Option, Some, None, refl, sym, ap, ◌∙◌, subst, arith}
 use Rattle.std.specs.Option.{option_and_then}
 use Rattle.std.proofs.lemmas.List.{length-append}
 use Rattle.module_tree.specs.Memory.{Memory, first_word}
-use Rattle.module_tree.specs.Values.{LocalVariable, Names, Valued, for_value, Argument, Given, for_given, Called, for_call, Calls, valued, given, right_side}
-use Rattle.module_tree.specs.Meaning.{Ended, Execution, ended, for_end, unless_returned, in_turn}
+use Rattle.module_tree.specs.Values.{LocalVariable, Valued, for_value, Argument, Given, for_given, Called, for_call}
+use Rattle.module_tree.specs.Meaning.{Ended, Execution, ended, for_end, unless_returned}
 use Rattle.flat_tree.specs.Trees.{Term}
 use Rattle.flat_tree.specs.Meaning.{State, value, with_scalar, at, onward, run}
 use Rattle.flat_tree.specs.Keeps.{Agree, Alike, BothSpent, BothLeft}

@@ -5,7 +5,6 @@ use Rattle.module_tree.specs.Operators.{result, is_true}
 use Rattle.module_tree.specs.Memory.{Memory, word_at, first_word}
 use Rattle.module_tree.specs.Trees.{Expression, Number, Named, Element, LengthOf, Operation, Select, Call, Expressions, NoMore, More}
 use Rattle.module_tree.specs.Values.{LocalVariable, Names, words_named, Valued, worth, for_value, Argument, Given, for_given, Called, for_call, Calls, array_of, valued, given}
-use Rattle.flat_tree.specs.Trees.{Term}
 use Rattle.flat_tree.specs.Meaning.{State, value, with_scalar, run}
 use Rattle.flat_tree.specs.Keeps.{Agree}
 use Rattle.flat_tree.proofs.Agreeing.{agree_same, agree_then, agree_fewer}
@@ -20,7 +19,7 @@ pub ordered_more : (low : ℕ) {n p : ℕ} (places : List Place) → n ≤ p →
 ordered_more low [] le o = tt
 ordered_more low (p ∷ places) le o = let upper = o.1 in (o.0, omega (arith, upper, le), o.2)
 
--- the variables of the module and the local ones are those of a memory
+-- a memory that has the words of the module's variables and of the local variables
 pub record Here (all : ℕ) (frame : List LocalVariable) (memory : Memory) (places : List Place) (l : Memory) : Type 0 where
   pub agree : Agree all memory l
   pub holds : Holds l frame places

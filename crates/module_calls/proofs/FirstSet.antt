@@ -1,16 +1,16 @@
 -- The first assignments make the memory of the start.
-use Rattle.std.proofs.Common.{◌≡◌, ℕ, zero, suc, ◌+◌, ◌%◌, ◌<◌, ◌≤◌, ◌⊎◌, inl, inr, Bool, true, false, if◌then◌else◌, ℤ, pos, List, [], ◌∷◌, ◌++◌, length, set, Option, Some, None, refl, sym, ap, ◌∙◌, subst, arith, ⊎_elim}
+use Rattle.std.proofs.Common.{◌≡◌, ℕ, zero, suc, ◌+◌, ◌%◌, ◌<◌, ◌≤◌, ◌⊎◌, Bool, true, false, if◌then◌else◌, ℤ, pos, List, [], ◌∷◌, ◌++◌, length, set, Option, Some, None, refl, sym, ap, ◌∙◌, subst, arith, ⊎_elim}
 use Rattle.std.specs.Option.{option_and_then, unwrap_or}
 use Rattle.std.proofs.Math.Nat.{mod-eq_of_lt}
 use Rattle.std.proofs.Math.Seq.{set-append_seam}
 use Rattle.std.proofs.lemmas.Bool.{cases_eq}
 use Rattle.std.proofs.lemmas.List.{append_assoc, length-append}
-use Rattle.module_tree.specs.Memory.{Memory, with_words, with_word, with_scalar, with_element, first_word}
+use Rattle.module_tree.specs.Memory.{Memory, with_word, with_scalar, with_element}
 use Rattle.module_tree.specs.Trees.{Item, Constant, Table, Scalar, Array}
 use Rattle.module_tree.specs.Values.{Names}
 use Rattle.module_tree.specs.FirstWords.{number_named, words_of, words_at, known_at, at_start}
 use Rattle.flat_tree.specs.Trees.{Statement, Skip, Put, Set}
-use Rattle.flat_tree.specs.Meaning.{State, at, onward, run}
+use Rattle.flat_tree.specs.Meaning.{at, onward, run}
 use Rattle.flat_tree.specs.Keeps.{Agree}
 use Rattle.flat_tree.proofs.Agreeing.{read_here, read_other}
 use Rattle.module_calls.specs.FirstAssignments.{zeros, is_null, is_single, elements_set, scalar_set, item_set, items_set, first_assignments, before_start, OnlyForZeros}

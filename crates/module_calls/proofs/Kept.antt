@@ -1,4 +1,4 @@
--- What a module becomes does with its variables what the module means.
+-- The inlined `main` does with the module's variables what the module means.
 use Rattle.std.proofs.Common.{ℕ, suc, Bool, true, false, if◌then◌else◌, ℤ, List, [], ◌∷◌, length, Option, Some, None, arith}
 use Rattle.std.specs.Prelude.{bytes_eq}
 use Rattle.std.specs.Option.{option_and_then, option_map}

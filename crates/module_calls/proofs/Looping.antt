@@ -1,12 +1,12 @@
--- A loop, whose test is computed before it and at the end of its body, ends as the loop of the module does.
+-- A flat loop, whose test is computed before it and at the end of its body, ends as the module's loop does.
 use Rattle.std.proofs.Common.{◌≡◌, ℕ, zero, suc, ◌<◌, ◌≤◌, Bool, true, false, if◌then◌else◌, List, length, Option, Some, None, refl, sym, ap, ◌∙◌, subst, arith}
 use Rattle.std.specs.Option.{option_and_then}
 use Rattle.module_tree.specs.Operators.{is_true}
 use Rattle.module_tree.specs.Memory.{Memory}
 use Rattle.module_tree.specs.Values.{LocalVariable, Valued, for_value}
-use Rattle.module_tree.specs.Meaning.{Ended, Execution, ended, for_end, in_turn, turn_taken, looped}
+use Rattle.module_tree.specs.Meaning.{Execution, ended, for_end, in_turn, turn_taken, looped}
 use Rattle.flat_tree.specs.Trees.{Term}
-use Rattle.flat_tree.specs.Meaning.{State, value, holds, at, onward, run}
+use Rattle.flat_tree.specs.Meaning.{State, holds, at, onward, run}
 use Rattle.flat_tree.specs.Keeps.{Agree}
 use Rattle.flat_tree.proofs.Agreeing.{agree_same, agree_fewer}
 use Rattle.flat_tree.proofs.Falling.{one_falls}
@@ -48,14 +48,14 @@ module _ (all low n : ℕ) (places : List Place) (test : tree.State → Option V
     → ValueComes n (length bs) l term (test (state frame memory turns)) (run (bind n bs) l turns))
     (bodies : (frame : List LocalVariable) (memory s : Memory) (left : ℕ) → Here all frame memory places s
     → Ends all low places s false (body (state frame memory left)) (run inner s left)) where
-  -- the body with the test behind it
+  -- the body, and then the test
   abbrev again : flat_meaning.Execution
   again = run (flat.Seq inner (bind n bs))
 
   abbrev flat_loop : ℕ → flat_meaning.Execution
   flat_loop most = flat_meaning.looped (holds term) again most
 
-  -- the module's loop from a state on, and the flat one from behind its test on
+  -- the module's loop from a state on, and the flat loop once its test is computed
   abbrev LoopsEnd : ℕ → ℕ → List LocalVariable → Memory → Memory → ℕ → Type 0
   LoopsEnd most other frame memory l turns =
       Ends all low places l false (looped test body most (state frame memory turns))

@@ -1,4 +1,4 @@
--- If a module obeys the rules, then its functions with returns moved to their ends are fine.
+-- A module that obeys the rules has what the inliner needs, once its returns moved to the ends of the functions.
 use Rattle.std.proofs.Common.{◌≡◌, ℕ, ◌&&◌, ◌||◌, not, Bool, true, false, if◌then◌else◌, List, [], ◌∷◌, Option, Some, None, refl, sym, ap, ◌∙◌, subst}
 use Rattle.std.specs.Prelude.{bytes_eq}
 use Rattle.std.proofs.lemmas.Slice.Eq.{bytes_eq-Decides}

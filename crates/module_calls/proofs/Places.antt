@@ -1,5 +1,4 @@
--- The local variables of a call stand in variables of the flat statements, at places of their own; reading and writing a
--- name is reading and writing there.
+-- Each local variable of a call has a variable of the flat statements, its place. A name is read and written there.
 use Rattle.std.proofs.Common.{◌≡◌, ℕ, ◌<◌, ◌≤◌, Bool, true, false, if◌then◌else◌, ℤ, List, [], ◌∷◌, Option, Some, None, refl, sym, ap, ◌∙◌, subst, arith}
 use Rattle.std.specs.Prelude.{bytes_eq}
 use Rattle.module_tree.specs.Memory.{Memory, first_word, word_at, with_word, with_words, with_scalar}

@@ -1,5 +1,5 @@
 -- What the inliner needs: calls in expressions are of pure functions, and nothing follows a statement that may return.
--- These are the rules of `Rules` after `tails`, as propositions. (This file is only for proofs and private clauses.)
+-- These are the rules of `Rules` after `tails`, as propositions. (This project's own.)
 use Rattle.std.specs.Prelude.{◌≡◌, ℕ, ◌||◌, Bool, true, false, List, [], ◌∷◌, Some, bytes_eq}
 use Rattle.module_tree.specs.Trees.{Expression, Number, Named, Element, LengthOf, Operation, Select, Call, Expressions, NoMore, More, Statement, Declare, SetVariable, SetElement, Choice, Loop, Return, Invoke, Nested, Block, Nothing, Then, Parameter, OfWord, OfArray, Function, Module}
 use Rattle.module_tree.specs.Meaning.{function_named}

@@ -1,6 +1,6 @@
 -- The first statements of a lowered module. The variables of an object begin as zeros, so these statements set the words
 -- of the module that aren't zero. (A pass of this project's compiler of modules.)
-use Rattle.std.specs.Prelude.{◌≡◌, ℕ, zero, ◌+◌, ◌<◌, ◌⊎◌, ℤ, pos, Bool, true, false, if◌then◌else◌, List, [], ◌∷◌, length, Option, Some, None}
+use Rattle.std.specs.Prelude.{◌≡◌, ℕ, zero, ◌+◌, ◌⊎◌, ℤ, pos, Bool, true, false, if◌then◌else◌, List, [], ◌∷◌, length, Option, None}
 use Rattle.std.specs.Option.{unwrap_or}
 use Rattle.module_tree.specs.Memory.{Memory, first_word}
 use Rattle.module_tree.specs.Trees.{Item, Constant, Table, Scalar, Array}

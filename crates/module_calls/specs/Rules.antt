@@ -2,7 +2,7 @@
 -- a pure function; a loop contains no return; and nothing follows a statement that may return, except an `if` of which
 -- one block returns on each path and the other on none. A function is pure if neither it nor a function that it calls
 -- assigns to a variable of the module or to an element of an array. (The language of modules is this project's own.)
-use Rattle.std.specs.Prelude.{◌≡◌, ℕ, suc, zero, ◌&&◌, ◌||◌, not, Bool, true, false, List, [], ◌∷◌, length, bytes_eq, Option, Some, None}
+use Rattle.std.specs.Prelude.{◌≡◌, ℕ, suc, zero, ◌&&◌, ◌||◌, not, Bool, true, false, List, [], ◌∷◌, length, Option, Some, None}
 use Rattle.module_tree.specs.Trees.{Expression, Number, Named, Element, LengthOf, Operation, Select, Call, Expressions, NoMore, More, Statement, Declare, SetVariable, SetElement, Choice, Loop, Return, Invoke, Nested, Block, Nothing, Then, Function, Module}
 use Rattle.module_tree.specs.Meaning.{function_named}
 use Rattle.module_calls.specs.Tails.{always_in}

@@ -10,7 +10,7 @@ pub fn tails_law()
     ensures { (m : Module) → MeansTheSame m }
 {}
 
-/// A law: if a module obeys the rules of the language, then it has what the inliner needs once its returns moved.
+/// A law: if a module obeys the rules of the language, then it has what the inliner needs after `tails`.
 pub fn rules_law()
     ensures { (m : Module) → ObeysRules m → FineModule (pure_in m) (tailed m) }
 {}

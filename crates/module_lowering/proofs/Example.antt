@@ -15,7 +15,7 @@ use Rattle.module_tree.proofs.TestedBelow.{all_below, tested}
 use Rattle.module_calls.specs.Inlining.{inlines_at}
 use Rattle.module_calls.specs.Rules.{ObeysRules, pure_at}
 use Rattle.module_calls.specs.FirstAssignments.{before_start}
-use Rattle.flat_tree.specs.Trees.{Term, Number, Scalar, Element, Operation, Select, Statement}
+use Rattle.flat_tree.specs.Trees.{Term, Number, Scalar, Element, Operation, Statement}
 use Rattle.flat_core.specs.Promise.{Sized}
 use Rattle.module_lowering.specs.Lowering.{lowered_module}
 use Rattle.module_lowering.specs.Naming.{single_at, SetsScalars}

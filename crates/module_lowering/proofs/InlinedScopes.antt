@@ -5,20 +5,20 @@ use Rattle.std.specs.Option.{option_map}
 use Rattle.std.proofs.lemmas.List.{length-append}
 use Rattle.module_tree.specs.Memory.{Memory, first_word}
 use Rattle.module_tree.specs.Trees.{Expression, Number, Named, Element, LengthOf, Operation, Select, Call, Expressions, NoMore, More, Statement, Declare, SetVariable, SetElement, Choice, Loop, Return, Invoke, Nested, Block, Nothing, Then, Parameter, OfWord, OfArray, Function, Item, Module, name_of}
-use Rattle.module_tree.specs.Values.{Names, array_of, size_named}
+use Rattle.module_tree.specs.Values.{Names, array_of}
 use Rattle.module_tree.specs.FirstWords.{number_named, known_at, sizes_of}
 use Rattle.module_tree.specs.Meaning.{names_of, function_named}
 use Rattle.flat_tree.specs.Trees.{Term}
 use Rattle.flat_core.specs.Core.{InScope}
 use Rattle.module_calls.specs.Tails.{always_in, followed, choice_before, tails, tailed_function, tailed_all, tailed}
 use Rattle.module_calls.specs.Fine.{word_names, among}
-use Rattle.module_calls.specs.Inlining.{Place, Binding, Lowered, Passed, AllPassed, Inlines, with_bindings, bind, scalar_term, element_term, term_named, set_scalar, set_named, put_named, then_term, lowered, passed, statement, block, set_first, with_parameters, passed_arrays, body_of, inlines_at, inlined}
-use Rattle.module_calls.specs.FirstAssignments.{is_null, is_single, elements_set, scalar_set, item_set, items_set, first_assignments}
+use Rattle.module_calls.specs.Inlining.{Place, Binding, Lowered, Passed, AllPassed, Inlines, with_bindings, bind, scalar_term, element_term, term_named, set_scalar, set_named, put_named, lowered, passed, statement, block, set_first, with_parameters, passed_arrays, body_of, inlines_at, inlined}
+use Rattle.module_calls.specs.FirstAssignments.{is_null, is_single, elements_set, item_set, items_set}
 use Rattle.module_calls.specs.Promise.{flattened}
 use Rattle.module_calls.proofs.Places.{BelowIf, NameItems}
 use Rattle.module_lowering.specs.Shape.{ScopedTerm, Scoped}
 use Rattle.module_lowering.specs.Naming.{single_named, single_at, array_names, statement_sets, block_sets, settable_in, functions_set, SetsScalars}
-use Rattle.module_lowering.proofs.Scopes.{Inside, inside_same, inside_then, inside_more, inside_both, term_larger, statement_larger}
+use Rattle.module_lowering.proofs.Scopes.{Inside, inside_same, inside_then, inside_more, term_larger, statement_larger}
 use Rattle.flat_tree.specs.Trees as flat
 
 first_true : (a b : Bool) → (a && b) ≡ true → a ≡ true
@@ -116,8 +116,10 @@ module _ (all : ℕ) (is_scalar : ℕ → Bool) where
   bind_scoped scope inner n [] is f = tt
   bind_scoped scope inner n (b ∷ bs) is f =
       let here = inside_then (opened_inside (n + 1) (length bs) (n ∷ scope)) f in (
-        (here.grows (λ k. is_scalar k ≡ true) n (inl refl),
-            term_larger all is_scalar (inside_then (inside_more n (inside_same all scope)) here) b.first is.0),
+        (
+          here.grows (λ k. is_scalar k ≡ true) n (inl refl),
+          term_larger all is_scalar (inside_then (inside_more n (inside_same all scope)) here) b.first is.0,
+        ),
         (statement_larger all is_scalar here b.body is.1, bind_scoped (n ∷ scope) inner (n + 1) bs is.2 f),
       )
 

@@ -1,8 +1,8 @@
 -- The core program that a module becomes does what the module means: the laws of all passes, composed.
-use Rattle.std.proofs.Common.{◌≡◌, ℕ, ◌+◌, ◌<◌, ◌≤◌, Bool, true, List, [], length, Option, Some, None, refl, sym, ◌∙◌, subst, arith}
+use Rattle.std.proofs.Common.{ℕ, ◌≤◌, Bool, true, List, length, Option, Some, None, refl, sym, ◌∙◌, arith}
 use Rattle.std.specs.Option.{option_map}
 use Rattle.src_tree.specs.declared.trees.Decl.{Decl}
-use Rattle.src_tree.specs.Prelude.{Left, words_of_number, variable_number, meaning}
+use Rattle.src_tree.specs.Prelude.{Left, words_of_number}
 use Rattle.module_tree.specs.Memory.{Memory}
 use Rattle.module_tree.specs.Trees.{Module}
 use Rattle.module_tree.specs.Meaning.{module_meaning}
@@ -11,7 +11,7 @@ use Rattle.module_calls.specs.Promise.{LeaveAlike, flattened}
 use Rattle.module_calls.proofs.Whole.{flattened_meaning}
 use Rattle.flat_tree.specs.Trees.{Term, Statement}
 use Rattle.flat_tree.specs.Meaning.{State, run}
-use Rattle.flat_tree.specs.Keeps.{Agree, Alike, Keeps}
+use Rattle.flat_tree.specs.Keeps.{Alike, Keeps}
 use Rattle.flat_tree.proofs.Agreeing.{agree_same}
 use Rattle.flat_tree.proofs.Keeping.{keeps_then}
 use Rattle.flat_tree.proofs.Bounds.{all_below}
@@ -19,9 +19,9 @@ use Rattle.flat_passes.specs.Conditions.{conditions}
 use Rattle.flat_passes.proofs.SameConditions.{conditions_keep}
 use Rattle.flat_passes.specs.Values.{values}
 use Rattle.flat_passes.proofs.KeptValues.{values_keep}
-use Rattle.flat_core.specs.Promise.{Agrees, LeftAlike}
+use Rattle.flat_core.specs.Promise.{LeftAlike}
 use Rattle.flat_core.proofs.Running.{core_keeps}
-use Rattle.module_lowering.specs.Lowering.{above, prepared, lowered_module}
+use Rattle.module_lowering.specs.Lowering.{above, prepared}
 use Rattle.module_lowering.specs.Naming.{single_at, SetsScalars}
 use Rattle.module_lowering.specs.Shape.{NamesTheRest}
 use Rattle.module_lowering.specs.Promise.{Computes, BothSpent, BothLeft, Declares, locals_of, Lowers}

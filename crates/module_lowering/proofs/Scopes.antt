@@ -1,10 +1,10 @@
 -- Terms and statements in larger scopes, and what becomes of conditions.
-use Rattle.std.proofs.Common.{◌≡◌, ℕ, ◌+◌, ◌<◌, ◌≤◌, ◌⊎◌, inl, inr, ◌&&◌, Bool, true, false, if◌then◌else◌, pos, List, [], ◌∷◌, ◌++◌, length, refl, ap, ◌∙◌, arith, ⊎_elim}
-use Rattle.module_tree.specs.Operators.{Machine, LogicalShift, Compare, Conjunction, Disjunction}
+use Rattle.std.proofs.Common.{ℕ, ◌⊎◌, inl, inr, ◌&&◌, Bool, true, false, if◌then◌else◌, pos, List, ◌∷◌, refl, ⊎_elim}
+use Rattle.module_tree.specs.Operators.{Machine, Compare, Conjunction, Disjunction}
 use Rattle.flat_tree.specs.Trees.{Term, Number, Scalar, Element, Operation, Select, Statement, Skip, Seq, Set, Put, If, While, Local}
 use Rattle.flat_tree.specs.Keeps.{reads}
-use Rattle.flat_core.specs.Core.{InScope, Readable, Settable, CoreTerm, CoreTest}
-use Rattle.flat_passes.specs.Conditions.{choice, one_or_zero, assigned, declared, with_local, conditions}
+use Rattle.flat_core.specs.Core.{InScope, Settable, CoreTerm}
+use Rattle.flat_passes.specs.Conditions.{choice, assigned, declared, with_local, conditions}
 use Rattle.module_lowering.specs.Shape.{ScopedTerm, Scoped}
 
 -- a scope within a larger one
@@ -99,8 +99,7 @@ module _ (all : ℕ) (is_scalar : ℕ → Bool) where
         → Scoped all is_scalar (k ∷ scope) body → Scoped all is_scalar scope (declared light k e body)
     declared_scoped scope k e body is more =
         either_scoped scope (reads k e) (Local k e body) (Local k (Number (pos 0)) (Seq (assigned light k e) body))
-        (is, more)
-        (
+        (is, more) (
           tt,
           (assigned_scoped (k ∷ scope) k e (inl refl) (term_larger (inside_more k (inside_same all scope)) e is), more),
         )

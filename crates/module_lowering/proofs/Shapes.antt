@@ -1,15 +1,14 @@
 -- The shape theorem: after the passes all statements have only forms of the core.
-use Rattle.std.proofs.Common.{◌≡◌, ℕ, zero, suc, ◌+◌, ◌<◌, ◌≤◌, inl, inr, Bool, true, false, if◌then◌else◌, pos, List, [], ◌∷◌, ◌++◌, length, refl, sym, ap, ◌∙◌, subst, arith}
-use Rattle.std.specs.Prelude.{◌==◌, ◌||◌, not, max}
+use Rattle.std.proofs.Common.{◌≡◌, ℕ, ◌+◌, ◌≤◌, inl, Bool, true, false, if◌then◌else◌, pos, List, [], ◌∷◌, ◌++◌, length, refl, sym, ap, ◌∙◌, subst, arith}
+use Rattle.std.specs.Prelude.{◌==◌, ◌||◌, not}
 use Rattle.std.proofs.lemmas.Bool.{ne_eqb}
 use Rattle.std.proofs.lemmas.List.{length-append}
-use Rattle.gr_word.specs.declared.operations.Cmp.TheVariants.{Ne}
 use Rattle.module_tree.specs.Operators.{Machine, LogicalShift, Compare, Conjunction, Disjunction}
 use Rattle.flat_tree.specs.Trees.{Term, Number, Scalar, Element, Operation, Select, Statement, Skip, Seq, Set, Put, If, While, Local}
 use Rattle.flat_tree.specs.Keeps.{TermBelow, Below, reads}
 use Rattle.flat_tree.proofs.Bounds.{all_below}
 use Rattle.flat_core.specs.Core.{InScope, Readable, Settable, CoreTerm, CoreTest, CoreStatement}
-use Rattle.flat_passes.specs.Conditions.{choice, one_or_zero, assigned, declared, with_local, conditions}
+use Rattle.flat_passes.specs.Conditions.{choice, assigned, declared, with_local, conditions}
 use Rattle.flat_passes.specs.Shifts.{shifted}
 use Rattle.flat_passes.specs.Values.{Hoisted, named_if, is_leaf, named, two, hoisted, value_of, tested, test_of, with_locals, set_again, values}
 use Rattle.module_lowering.specs.Lowering.{above, prepared}
@@ -188,10 +187,13 @@ module _ (all : ℕ) (is_scalar : ℕ → Bool) where
       → Conditions (grown n es scope) (n + length es) fs → Conditions scope n (es ++ fs)
   conditions_joined scope n [] fs one other =
       subst (λ k. Conditions scope k fs) (let e : n + 0 ≡ n = omega arith in e) other
-  conditions_joined scope n (e ∷ es) fs one other =
-      (one.0, one.1, conditions_joined (n ∷ scope) (n + 1) es fs one.2
-      (subst (λ k. Conditions (grown (n + 1) es (n ∷ scope)) k fs)
-      (let same : n + length (e ∷ es) ≡ n + 1 + length es = omega arith in same) other))
+  conditions_joined scope n (e ∷ es) fs one other = (
+    one.0,
+    one.1,
+    conditions_joined (n ∷ scope) (n + 1) es fs one.2
+        (subst (λ k. Conditions (grown (n + 1) es (n ∷ scope)) k fs)
+        (let same : n + length (e ∷ es) ≡ n + 1 + length es = omega arith in same) other),
+  )
 
   record Good (scope : List ℕ) (n : ℕ) (h : Hoisted) : Type 0 where
     before : Conditions scope n h.before

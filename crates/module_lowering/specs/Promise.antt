@@ -1,6 +1,6 @@
 -- The theorem: the core program that a module becomes does with the module's variables what the module means. (This
 -- project's own.)
-use Rattle.std.specs.Prelude.{◌≡◌, ℕ, ◌+◌, ◌<◌, ℤ, Bool, List, [], length, Option, Some, None}
+use Rattle.std.specs.Prelude.{◌≡◌, ℕ, ◌+◌, ◌<◌, ℤ, Bool, List, length, Option, Some, None}
 use Rattle.src_tree.specs.declared.trees.Decl.{Decl}
 use Rattle.src_tree.specs.Meaning.{Store, variable_number, meaning}
 use Rattle.module_tree.specs.Memory.{Memory}

@@ -1,4 +1,4 @@
--- `a >>> b` of a word is its unsigned quotient by a power of two.
+-- `a >>> b` divides the word a, as an unsigned number, by a power of two.
 use Rattle.std.proofs.Common.{◌≡◌, ℕ, suc, ◌+◌, ◌-◌, ◌*◌, ◌/◌, ◌%◌, ◌^◌, ◌<◌, ℤ, pos, negsuc, sym, ap, ◌∙◌, arith, w64, mod-lt}
 use Rattle.std.specs.Int.{cast_signed, int_shr}
 use Rattle.std.proofs.Math.Pow.{shr_mod, not_mod}

@@ -4,7 +4,7 @@ use Rattle.std.specs.Prelude.{ℕ, suc, zero, ℤ, pos, if◌then◌else◌, Lis
 use Rattle.std.specs.Option.{option_map, unwrap_or}
 use Rattle.module_tree.specs.Operators.{is_true}
 use Rattle.module_tree.specs.Memory.{Memory, with_word}
-use Rattle.module_tree.specs.Trees.{Expression, Call, Statement, Declare, SetVariable, SetElement, Choice, Loop, Return, Invoke, Nested, Block, Nothing, Then, Parameter, OfWord, OfArray, Function, Module}
+use Rattle.module_tree.specs.Trees.{Call, Statement, Declare, SetVariable, SetElement, Choice, Loop, Return, Invoke, Nested, Block, Nothing, Then, Parameter, OfWord, OfArray, Function, Module}
 use Rattle.module_tree.specs.Values.{Names, words_named, with_named, LocalVariable, frame_with, memory_with, Valued, for_value, Argument, Called, for_call, Calls, State, valued, right_side}
 use Rattle.module_tree.specs.FirstWords.{number_named, at_start, sizes_of}
 

@@ -1,6 +1,6 @@
--- What the remaining forms of the language stand for: `-e`, `~e`, `!e`, `x op= e`, `v[i] op= e`, `while` and `for`. Three
--- more need no definition: `else if` is a block with one choice, `x++` is `x += 1`, and a missing condition is 1. (The
--- language of modules is this project's own.)
+-- The trees of `-e`, `~e`, `!e`, `x op= e`, `v[i] op= e`, `while` and `for`, which are other trees in short. Three more
+-- need no definition: `else if` is a block with one choice, `x++` is `x += 1`, and a missing condition is 1. (The language
+-- of modules is this project's own.)
 use Rattle.std.specs.Prelude.{ℕ, pos, negsuc, List}
 use Rattle.gr_word.specs.declared.operations.Op.TheVariants.{Sub, Xor}
 use Rattle.gr_word.specs.declared.operations.Cmp.TheVariants.{Eq}
