@@ -25,6 +25,12 @@ pub(crate) fn put_all<O: Sink>(texts: &[&str], out: &mut O) -> Result<(), SinkFa
     out.flush()
 }
 
+/// Prints bytes, and passes on what the sink holds back.
+pub(crate) fn put_bytes<O: Sink>(bytes: &[u8], out: &mut O) -> Result<(), SinkFailed> {
+    out.put(bytes)?;
+    out.flush()
+}
+
 /// The status of a call whose output was printed, or couldn't be.
 pub(crate) fn status_after(printed: Result<(), SinkFailed>, status: u8) -> u8
     ensures { (result ≡ status) ⊎ (result ≡ 4) }
