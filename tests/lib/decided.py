@@ -71,7 +71,7 @@ def sources(tool):
             ('are read from left to right', 'public int x; x[u] = 1;', 'shape 0'),
             ('are read from left to right', 'public int a[3]; a[u] = a;', 'undeclared 0'),
             ('are read from left to right', 'public int a[3]; a[0] = a + u;', 'shape 0'),
-            ('In a file they are unexpected', 'public int __a;', 'unexpected 11'),
+            ('in a file they are unexpected', 'public int __a;', 'unexpected 11'),
             ('they share its limit of operators', shared, f"deep {shared.rindex('+')}"),
             ('names of procedures, then calls', 'proc f() { } proc f() { } h();', 'procs twice 1'),
             ('is counted over the whole file', 'proc f() { } proc g() { f(); } f(); h();', 'procs unknown 2'),
@@ -81,7 +81,7 @@ def sources(tool):
     local = 'public int r[2]; proc f(int o[]; public int k) { public int l; l = l + 1; o[k] = l; } f(r; 0); f(r; 1);'
     yield 'Locals are 0 at each call', evaluated(tool, local, 'r'), [1, 1]
     alias = evaluated(tool, 'public int r[2]; proc f(int o[]) { o[0] = 5; } f(r);', 'r')
-    yield 'is another name**, not a copy', alias, [5, 0]
+    yield 'is another name, not a copy', alias, [5, 0]
     for depth, line in (11, 'compiled'), (12, 'fault 8 source limit weight 12285'):
         said = tool.compiled('secret int s; ' + depth * 'if (s > 0) { ' + depth * '} ', '9')
         yield 'at most 11 can be nested', said, line
@@ -114,11 +114,11 @@ def calls(tool):
         yield 'In the name of an input hidden characters are escaped', said, f'fault 9 input unknown "{told}"'
     for words, asked, line in (
             ('`--paths=true` is a usage error', ['trace', 'x', 'y', '--paths=true'], 'fault 2 usage'),
-            ('is a flag without a value** too', ['run', 'x', 'y', 'z', '--recursive=true'], 'fault 2 usage'),
+            ('`--paths` and `--recursive` take no value', ['run', 'x', 'y', 'z', '--recursive=true'], 'fault 2 usage'),
             ('An option that is given twice', ['run', 'x', 'y', 'z', '--seed', '1', '--seed', '1'], 'fault 2 usage'),
             ('so are help and version', ['check', '--version'], 'fault 2 usage'),
             ('so a name there may begin with a hyphen', ['check', '--', '-x'], 'fault 3 read -x'),
             ('is rejected with status 4', ['dis', 'made.obj', '/dev/stdout'], 'fault 4 write /dev/stdout'),
             ('The null device may be both', ['dis', 'made.obj', '/dev/null'], 'disassembled'),
-            ("It ends without a line if a word isn't valid UTF-8", ['check', b'\xff'], '')):
+            ("ends without a line if a word isn't valid UTF-8", ['check', b'\xff'], '')):
         yield words, tool.call(*asked), line

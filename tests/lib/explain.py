@@ -180,7 +180,7 @@ SHELL = [  # a title, a line of the shell, its status, standard output, and what
      b'{"status":4,"file":null,"line":null,"column":null,"reason":"standard output: No space left on device","hint":null}\n', None),
     ('an object', './gr check bad.gr', 6, b'fault 6 object magic\n', b'It is a source'),
     ('a refused object', './gr check examples/leaks.obj', 7, b'fault 7 refused 4 2\n', b'stw r2 0 r1'),
-    ('usage', './gr run x', 2, b'fault 2 usage\n', b'run: missing argument INPUT'),
+    ('usage', './gr run x', 2, b'fault 2 usage\n', b'run: missing argument INPUT\nusage: ghostrider run OBJ INPUT OUT '),
     ('no verb', './gr frob', 2, b'fault 2 usage\n', b'frob is not a verb\nThe verbs are compile, check, run, '),
     ('an option of other verbs', './gr run good.obj good.json out --fast', 2, b'fault 2 usage\n',
      b'ghostrider: run: --fast is not an option of this verb\nIt is an option of compile, test, layout, listing, profile and '

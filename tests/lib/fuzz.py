@@ -25,9 +25,10 @@ WIDE_SECONDS = 15
 # What a process of the program takes without a file, with the pages of its libraries.
 PROGRAM_BYTES = 16 << 20
 
-# Two looping cores take about as long on a bus as in separate runs. The check of a large region takes up to seven bytes for each
-# byte of the object (docs/RUNNING.md), beside the program's own code.
-BUS_RATIO, REGION_BYTES, CODE_BYTES = 2, 6, 1 << 23
+# Two looping cores take about as long on a bus as in separate runs. The check of a large region takes up to twelve bytes
+# of address space for each byte of the object (its table grows by moving to one of twice the size), beside the program's
+# own code.
+BUS_RATIO, REGION_BYTES, CODE_BYTES = 2, 12, 1 << 23
 
 STATUSES = {
     'check': (0, 6, 7), 'trace': (0, 6, 7, 9, 10), 'run': (0, 6, 7, 9, 10), 'asm': (0, 12), 'dis': (0, 6),
