@@ -1,5 +1,8 @@
 //! Compares paths as texts.
 
+ghost use Rattle.std.specs.Prelude.{◌≡◌};
+ghost use Rattle.ghost_front.specs.Paths.{leads};
+
 /// Whether two paths are the same but for steps that lead nowhere: `./a` is `a`, and `b//c` is `b/./c`. No link is
 /// followed, and `..` is a step like others, since the folder before it may be a link.
 pub(crate) fn are_one_path(one: &str, other: &str) -> bool {
@@ -23,6 +26,8 @@ fn is_rooted(path: &str) -> bool {
 }
 
 // Whether a step of a path leads to another file.
-fn leads(step: &str) -> bool {
-    !step.is_empty() && step != "."
+fn leads(step: &str) -> bool
+    ensures { result ≡ leads step.now }
+{
+    !(step == "" || step == ".")
 }
