@@ -1,7 +1,7 @@
 -- In which files of a call the fault may be, by the call's exit status. (This project's profile.)
 use Rattle.std.specs.Prelude.{◌≡◌, ℕ, ◌⊎◌}
-use Rattle.explain_words.specs.declared.calls.FileKind.{FileKind}
-use Rattle.explain_words.specs.declared.calls.FileKind.TheVariants.{Object, Source, Inputs, Assembly, Cases}
+use Rattle.fault_texts.specs.declared.file_kinds.FileKind.{FileKind}
+use Rattle.fault_texts.specs.declared.file_kinds.FileKind.TheVariants.{Object, Source, Inputs, Assembly, Cases}
 
 -- files that a call may have warnings of if it did its work
 abbrev pub MayHaveWarnings : FileKind → Type 0

@@ -1,5 +1,1 @@
-pub mod EscapedNames
 pub mod FaultyFiles
-pub mod Plain
-pub mod ShownNames
-pub mod Prelude

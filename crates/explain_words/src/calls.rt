@@ -1,25 +1,22 @@
 //! A call of the program that met a fault: which of its files are read again, and the words about each.
 
-ghost use Rattle.std.specs.Prelude.{◌≡◌, ◌≤◌, true, IfOk, IfSome, All};
+ghost use Rattle.std.specs.Prelude.{◌≡◌, true, IfOk, IfSome, All};
 ghost use Rattle.gr_word.specs.Prelude.{AreVariables};
 ghost use Rattle.explain_words.specs.FaultyFiles.{MayHaveFault, MayHaveWarnings};
-ghost use Rattle.explain_words.specs.Plain.{IsPlain};
+ghost use Rattle.fault_texts.specs.Plain.{IsPlain};
 
-use crate::assembly::explain_assembly;
-use crate::buses::{Core, explain_bus};
 use crate::cases::explain_cases;
 use crate::duplicates::warn_of_inputs;
 use crate::inputs::{explain_inputs, variables_of_object, variables_of_source};
-use crate::looks::put_other_kind;
-use crate::objects::{explain_file, object_in};
-use crate::refusals::{explain_inference, explain_refusal};
-use crate::sources::{Room, explain_source};
-use crate::texts::is_word_of;
 use crate::usage::{Sorted, explain_usage};
-use crate::warnings::warn_of_source;
-use crate::words::Words;
+use fault_texts::{FileKind, Words, is_word_of, put_other_kind};
 use gr_base::Memory;
 use gr_word::Want;
+use object_faults::{
+    Core, explain_assembly, explain_bus, explain_file, explain_inference, explain_refusal,
+    object_in,
+};
+use source_faults::{Room, explain_source, warn_of_source};
 use std::alloc::Global;
 use std::marker::Model;
 
@@ -28,43 +25,6 @@ const USUAL_BLOCK_LOG: u8 = 9;
 
 /// The limit of cycles and of iterations without an option.
 const USUAL_LIMIT: u64 = 1_000_000_000;
-
-/// What a file of a call is to be.
-#[derive(Clone, Copy)]
-pub enum FileKind {
-    Object,
-    Source,
-    Inputs,
-    Assembly,
-    Cases,
-}
-
-impl FileKind {
-    // The kind of file that a word of a verb's line names.
-    fn named(word: &str) -> Option<FileKind> {
-        match word {
-            "OBJ" => Some(FileKind::Object),
-            "SRC" => Some(FileKind::Source),
-            "INPUT" => Some(FileKind::Inputs),
-            "TEXT" => Some(FileKind::Assembly),
-            "CASES" => Some(FileKind::Cases),
-            _ => None,
-        }
-    }
-
-    /// The most bytes of a file that is right: 64 MiB at most, so that one byte more is a number too.
-    pub fn most_bytes(self) -> usize
-        ensures { result ≤ 67108864 }
-    {
-        match self {
-            FileKind::Object => 33_554_432,
-            FileKind::Source => 1_048_576,
-            FileKind::Inputs => 67_108_864,
-            FileKind::Assembly => 67_108_864,
-            FileKind::Cases => 67_108_864,
-        }
-    }
-}
 
 /// A file that the call read: its name, its kind, and its bytes. Of a file that is too long these are the first, one more
 /// than a valid file may have.

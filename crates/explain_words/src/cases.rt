@@ -1,12 +1,9 @@
 //! Why a file has no cases for the tool `test`, and its failed cases as lines of JSON.
 
 ghost use Rattle.std.specs.Prelude.{IfOk, All};
-ghost use Rattle.explain_words.specs.Plain.{IsPlain};
+ghost use Rattle.fault_texts.specs.Plain.{IsPlain};
 
-use crate::calls::FileKind;
-use crate::looks::put_other_kind;
-use crate::texts::Source;
-use crate::words::Words;
+use fault_texts::{FileKind, Source, Words, put_other_kind};
 use gr_base::Memory;
 use std::alloc::Global;
 

@@ -1,9 +1,7 @@
 //! Names that inputs have twice.
 
 use crate::members::Walk;
-use crate::texts::{piece, spot_at};
-use crate::warnings::Count;
-use crate::words::Words;
+use fault_texts::{WarningCount, Words, piece, spot_at};
 use gr_base::Memory;
 use std::alloc::Global;
 use std::collections::BTreeMap;
@@ -15,7 +13,7 @@ pub(crate) fn warn_of_inputs(alloc: Global, name: &str, text: &[u8], out: &mut W
 }
 
 fn warned(alloc: Global, name: &str, text: &[u8], out: &mut Words) -> Result<(), Memory> {
-    let mut count = Count::NONE;
+    let mut count = WarningCount::NONE;
     let mut known: BTreeMap<&[u8], usize> = BTreeMap::new(alloc);
     let mut walk = Walk::START;
     // the last string of the outermost object, which is a name if a colon follows

@@ -3,21 +3,16 @@
 ghost use Rattle.std.specs.Prelude.{IfSome};
 ghost use Rattle.gr_word.specs.Prelude.{AreVariables};
 
-use crate::calls::FileKind;
 use crate::json_faults::{JsonFault, json_fault, unread_at};
-use crate::looks::put_other_kind;
 use crate::members::{Described, ValueKind, described_member, item_at, member_at, value_at};
-use crate::nearest::Nearest;
-use crate::objects::object_in;
-use crate::shown_names::is_added;
-use crate::texts::{Source, piece, spot_at};
-use crate::tokens::SOURCE_BYTES;
-use crate::words::Words;
+use fault_texts::{FileKind, Nearest, Source, Words, piece, put_other_kind, spot_at};
 use flow_types::type_program;
 use gr_base::Memory;
 use gr_word::{Shape, Want};
+use object_faults::object_in;
 use procs_parser::parse_procs;
 use run_data::{INPUT_BYTES, InputError, Name2, read_inputs};
+use source_faults::{SOURCE_BYTES, is_added};
 use src_lexer::{Token, lex};
 use src_parser::parse;
 use src_procs::inline_owned;
@@ -121,9 +116,15 @@ impl Given<'_> {
         }
     }
 
-    // Where the member of a name begins; the text's first byte where the name is written with escapes.
-    fn member(&self, name: &str) -> usize {
-        member_at(self.source.text, name.as_bytes()).unwrap_or(0)
+    // Where the member of a name begins.
+    fn member(&self, alloc: Global, name: &str, out: &mut Words) -> usize {
+        match member_at(alloc, self.source.text, name) {
+            Ok(found) => found.unwrap_or(0),
+            Err(_) => {
+                out.starve();
+                0
+            }
+        }
     }
 
     fn no_json(&self, alloc: Global, out: &mut Words) {
@@ -166,7 +167,7 @@ impl Given<'_> {
     }
 
     fn unknown(&self, alloc: Global, name: &str, out: &mut Words) {
-        let spot = spot_at(self.source.text, self.member(name));
+        let spot = spot_at(self.source.text, self.member(alloc, name, out));
         out.put_place(self.source.name, spot);
         if name.len() <= NAME_BYTES {
             out.say("there is no variable `");
@@ -204,27 +205,31 @@ impl Given<'_> {
     // A member whose value isn't what its variable needs.
     fn misfit(&self, alloc: Global, name: &str, out: &mut Words) {
         match described_member(alloc, self.source.text, name) {
-            Ok(Some(value)) => self.unfitting(name, value, out),
+            Ok(Some(value)) => {
+                let member = self.member(alloc, name, out);
+                self.unfitting(name, member, value, out)
+            }
             Ok(None) => {}
             Err(_) => out.starve(),
         }
     }
 
-    fn unfitting(&self, name: &str, value: Described, out: &mut Words) {
+    fn unfitting(&self, name: &str, member: usize, value: Described, out: &mut Words) {
         for want in self.wants {
             if want.name.bytes() == name.as_bytes() {
-                return self.put_misfit(want, name, value, out);
+                return self.put_misfit(want, member, value, out);
             }
         }
     }
 
-    fn put_misfit(&self, want: &Want, name: &str, value: Described, out: &mut Words) {
+    // Adds what the member that begins at a byte must be, and what it is.
+    fn put_misfit(&self, want: &Want, member: usize, value: Described, out: &mut Words) {
         let text = self.source.text;
         let unfit = unfit_item(want, value);
-        let spot = spot_at(text, self.misfit_at(name, unfit));
+        let spot = spot_at(text, misfit_at(text, member, unfit));
         out.put_place(self.source.name, spot);
         out.say("`");
-        out.name(name);
+        out.quote(want.name.bytes());
         match (unfit, want.shape) {
             (Some((number, kind)), _) => {
                 out.fill("[{}]` must be a signed 64-bit integer", &[number]);
@@ -239,20 +244,16 @@ impl Given<'_> {
         out.put_line(text, spot);
         out.line("Each integer is in decimal, from -9223372036854775808 to 9223372036854775807.");
     }
+}
 
-    // The byte at which the value of a name isn't what its variable needs: the value, or an item of its list.
-    fn misfit_at(&self, name: &str, unfit: Option<(u64, ValueKind)>) -> usize {
-        let text = self.source.text;
-        let member = self.member(name);
-        if member == 0 {
-            return 0;
-        }
-        let found = match unfit {
-            Some((number, _)) => item_at(text, member, number as usize),
-            None => value_at(text, member),
-        };
-        found.unwrap_or(member)
-    }
+// The byte at which the value of the member that begins at a byte isn't what its variable needs: the value, or an item
+// of its list.
+fn misfit_at(text: &[u8], member: usize, unfit: Option<(u64, ValueKind)>) -> usize {
+    let found = match unfit {
+        Some((number, _)) => item_at(text, member, number as usize),
+        None => value_at(text, member),
+    };
+    found.unwrap_or(member)
 }
 
 // The name of the variable that is nearest to a name, if one is near and no call adds it.

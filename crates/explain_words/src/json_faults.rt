@@ -1,6 +1,7 @@
 //! The first byte at which a text ceases to be a JSON value, and why.
 
-use crate::texts::{is_word_of, length_up_to, piece};
+use crate::members::depth_after;
+use fault_texts::{is_word_of, length_up_to, piece};
 use gr_base::Memory;
 use json::{Reader, Scratch, Token};
 use run_data::number_given;
@@ -84,15 +85,6 @@ pub(crate) fn unread_at(alloc: Global, text: &[u8]) -> Result<usize, Memory> {
         }
     }
     Ok(0)
-}
-
-// How many brackets are open after a token.
-fn depth_after(depth: usize, token: Token<'_>) -> usize {
-    match token {
-        Token::BeginObject | Token::BeginArray => depth.saturating_add(1),
-        Token::EndObject | Token::EndArray => depth.saturating_sub(1),
-        _ => depth,
-    }
 }
 
 fn is_read(token: Token<'_>) -> bool {

@@ -1,6 +1,6 @@
 //! Where a member of a JSON object is in its text, and what its value is. No value is kept.
 
-use crate::texts::piece;
+use fault_texts::{length_up_to, piece};
 use gr_base::Memory;
 use json::{Reader, Scratch, Token};
 use run_data::number_given;
@@ -169,44 +169,52 @@ impl Walk {
     }
 }
 
-// Whether a member of this name begins at a byte: the name in quotation marks, followed by a colon.
-fn is_member(text: &[u8], at: usize, name: &[u8]) -> bool {
-    let start = at.saturating_add(1);
-    if piece(text, start, name.len()) != name {
-        return false;
-    }
-    match piece(text, start.saturating_add(name.len()), text.len()) {
-        [b'"', rest @ ..] => begins_value(rest),
-        _ => false,
-    }
-}
-
 fn is_white(byte: u8) -> bool {
     matches!(byte, b' ' | b'\t' | b'\n' | b'\r')
 }
 
-// Whether a colon follows there, after white space.
-fn begins_value(text: &[u8]) -> bool {
-    for byte in text {
-        if !is_white(*byte) {
-            return *byte == b':';
-        }
+/// How many brackets are open after a token.
+pub(crate) fn depth_after(depth: usize, token: Token<'_>) -> usize {
+    match token {
+        Token::BeginObject | Token::BeginArray => depth.saturating_add(1),
+        Token::EndObject | Token::EndArray => depth.saturating_sub(1),
+        _ => depth,
     }
-    false
 }
 
-/// The byte at which the member of a name begins whose value counts: the last of that name, in the outermost object, where
-/// the name is written without escapes.
-pub(crate) fn member_at(text: &[u8], name: &[u8]) -> Option<usize> {
-    let mut walk = Walk::START;
+/// The byte at which the member of a name begins whose value counts: the last of that name in the outermost object. The
+/// name may be written with escapes.
+pub(crate) fn member_at(alloc: Global, text: &[u8], name: &str) -> Result<Option<usize>, Memory> {
+    let Ok(text) = str::from_utf8(text) else {
+        return Ok(None);
+    };
+    let mut scratch = Scratch::new(alloc);
+    let mut reader = Reader::new(text, &mut scratch)?;
+    let mut depth = 0usize;
     let mut found = None;
-    for (at, byte) in text.iter().enumerate() {
-        if *byte == b'"' && !walk.in_string && walk.depth == 1 && is_member(text, at, name) {
-            found = Some(at);
+    for _ in 0..text.len() {
+        let at = reader.offset();
+        let Some(token) = reader.next() else {
+            break;
+        };
+        if depth == 1 && is_key(token, name) {
+            found = Some(quote_from(text.as_bytes(), at));
         }
-        walk = walk.after(*byte);
+        depth = depth_after(depth, token);
     }
-    found
+    Ok(found)
+}
+
+fn is_key(token: Token<'_>, name: &str) -> bool {
+    match token {
+        Token::Key(key) => key == name,
+        _ => false,
+    }
+}
+
+// The first quotation mark at a byte or after it. Before a name there is at most a comma and white space.
+fn quote_from(text: &[u8], at: usize) -> usize {
+    at.saturating_add(length_up_to(piece(text, at, text.len()), b"\""))
 }
 
 /// The byte at which the value of the member begins whose name begins at a byte.

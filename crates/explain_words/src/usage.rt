@@ -1,7 +1,7 @@
 //! The words of a call, by the verb's line in the table of verbs: its required words, `..` if they may be repeated, and
 //! its options in square brackets.
 
-use crate::words::Words;
+use fault_texts::Words;
 use gr_base::Memory;
 use std::alloc::Global;
 

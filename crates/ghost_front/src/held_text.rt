@@ -3,7 +3,7 @@
 ghost use Rattle.std.specs.Prelude.{◌≡◌};
 ghost use Rattle.ghost_front.specs.HeldText.{held_seen};
 
-use explain_words::Words;
+use fault_texts::Words;
 use gr_base::Memory;
 use gr_outside::{Sink, SinkFailed};
 use std::alloc::Global;

@@ -1,7 +1,7 @@
 //! Explains usage errors for which the table of all verbs is needed.
 
 use crate::verb_table::{VERBS, VerbHelp, name_of, takes, verb_help};
-use explain_words::Words;
+use fault_texts::Words;
 
 /// Writes what is wrong with the words of a call if they begin with no verb, or if an option belongs to other verbs only.
 /// Writes nothing otherwise.

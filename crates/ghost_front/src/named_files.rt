@@ -4,7 +4,7 @@ use crate::streams::DASH;
 use crate::tools::ToolName;
 use clap::ArgMatches;
 use command_words::verbs::{matches_of, verb_named};
-use explain_words::FileKind;
+use fault_texts::FileKind;
 use ghost_tools::{Count, Diff, Expand, Layout, Listing, Profile, Test, Tool};
 use gr_base::Memory;
 use object_tools::words;

@@ -15,7 +15,7 @@ use crate::reading::read_most;
 use crate::requests::is_manner;
 use crate::streams::StreamShelf;
 use call_replies::replies;
-use explain_words::FileKind;
+use fault_texts::FileKind;
 use ghost_cli::ghostrider;
 use gr_base::Memory;
 use gr_outside::{Shelf, Sink};

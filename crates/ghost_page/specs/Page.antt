@@ -6,7 +6,7 @@ use Rattle.gr_outside.specs.Shelf.{Files, ShelfSeen}
 use Rattle.gr_outside.specs.Sink.{SinkSeen}
 use Rattle.gr_outside.specs.MemShelf.{Shelved}
 use Rattle.gr_outside.specs.MemSink.{Held}
-use Rattle.explain_words.specs.Plain.{IsPlain}
+use Rattle.fault_texts.specs.Plain.{IsPlain}
 use Rattle.call_steps.specs.Outside.{Outside, outside}
 use Rattle.call_laws.specs.Promises.{Promises}
 use Rattle.call_laws.specs.Verbs.{work_of}

@@ -1,6 +1,6 @@
 ghost use Rattle.std.specs.Prelude.{◌≡◌, ◌≢◌, IfOk, All};
 ghost use Rattle.std.specs.Str.{IsUtf8};
-ghost use Rattle.explain_words.specs.Prelude.{IsPlain};
+ghost use Rattle.fault_texts.specs.Prelude.{IsPlain};
 ghost use Rattle.ghost_page.specs.Page.{IsPlainText};
 
 use crate::answers::{Answer, put};

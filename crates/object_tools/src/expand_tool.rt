@@ -6,8 +6,8 @@ use crate::sources::{SourceWords, read_source, source_in_words};
 use crate::words::OF_SOURCE;
 use clap::ArgMatches;
 use command_words::verbs::VerbWords;
-use explain_words::without_calls;
 use gr_outside::Shelf;
+use source_faults::without_calls;
 use std::alloc::Global;
 
 /// The tool `expand SRC`: prints a program with procedures as a program without calls. Each variable that a call adds is

@@ -2,9 +2,9 @@
 
 ghost use Rattle.std.specs.Prelude.{◌≤◌, IfOk, length};
 
-use explain_words::{WithoutCalls, without_calls};
 use gr_base::Memory;
 use gr_word::{Label, Name};
+use source_faults::{WithoutCalls, without_calls};
 use src_lexer::{Kind, LexError, Token, lex};
 use src_tree::{Decl, Program};
 use std::alloc::Global;

@@ -1,7 +1,0 @@
-use Rattle.std.proofs.Common.{flat_map}
-use Rattle.gr_base.specs.Prelude.{Adds}
-use Rattle.explain_words.specs.Prelude.{escaped_char}
-use Rattle.explain_words.proofs.words.Words.name.Given as goal
-
-abbrev pub invariant-loop-c : goal.invariant-loop-c
-invariant-loop-c l = Adds l.fn.self l.self (flat_map escaped_char l.yielded)

@@ -1,0 +1,3 @@
+pub mod EscapedNames
+pub mod Plain
+pub mod Prelude

@@ -1,0 +1,22 @@
+//! Faults of objects and of assembly texts: why a file encodes no object, why the check rejects an object, why it gets no
+//! notes, why it has no place on a bus, and why an assembly text is no object.
+//!
+//! Each function finds the first fault again, by the libraries that the program is built from, and writes the place, the
+//! reason, and what to write instead. No contract fixes these words; it is proved that each call ends, is safe, and names
+//! places within the file or the code.
+#![tactic(auto)]
+
+mod arms;
+mod assembly;
+mod buses;
+mod fields;
+mod line_forms;
+mod line_orders;
+mod objects;
+mod reasons;
+mod refusals;
+
+pub use assembly::explain_assembly;
+pub use buses::{Core, explain_bus};
+pub use objects::{explain_file, object_in};
+pub use refusals::{explain_inference, explain_refusal};
