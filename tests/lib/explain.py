@@ -176,6 +176,8 @@ SHELL = [  # a title, a line of the shell, its status, standard output, and what
     ('- as OUT of a bad source, as JSON', './gr --json compile bad.gr -', 8, b'',
      b'{"status":8,"result":"fault 8 source undeclared 0"}\n{"status":8,"file":"bad.gr","line":2,'),
     ('- as OUT of a missing file, as JSON', "./gr --json asm $'a\"\\\n' -", 3, b'', b'{"status":3,"result":"fault 3 read a\\"'),
+    ('- as OUT to a full device', './gr compile good.gr - 2>&1 >/dev/full', 4,
+     b'ghostrider: standard output: No space left on device\n', None),
     ('- as OUT to a full device, as JSON', './gr --json compile good.gr - 2>&1 >/dev/full', 4,
      b'{"status":4,"file":null,"line":null,"column":null,"reason":"standard output: No space left on device","hint":null}\n', None),
     ('an object', './gr check bad.gr', 6, b'fault 6 object magic\n', b'It is a source'),

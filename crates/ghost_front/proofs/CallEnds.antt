@@ -45,26 +45,13 @@ pub not_flushed : (file : Option (List ℕ)) (before mid after : SinkSeen) (verd
     → mid.faults ≡ before.faults → Rose mid.faults after.faults → Delivers file before after verdict 4
 not_flushed file before mid after verdict done calm rose = NotPut done (subst (λ n. Rose n after.faults) calm rose)
 
+-- the file is delivered, while another sink, seen as standard error at first, keeps the text
 pub streams_file : (asked : Option Work) (before after : Streams) (output output-after errors errors-after : SinkSeen)
-    (verdict status : ℕ) (file : Option (List ℕ))
-    → Promises asked (outside (as_shelf before) errors) (outside (as_shelf after) errors-after) verdict
-    → file ≡ after.output → Delivers file output output-after verdict status
-    → StreamsFile asked (around before output errors) (around after output-after errors-after) status
-streams_file asked before after output output-after errors errors-after verdict status file promises same delivers =
-    record {
-      verdict = verdict;
-      said = errors-after;
-      promises = promises;
-      delivered = subst (λ f. Delivers f output output-after verdict status) same delivers;
-    }
-
--- the same if another sink, seen as standard error at first, kept the text
-pub streams_lines : (asked : Option Work) (before after : Streams) (output output-after errors errors-after : SinkSeen)
     (start said : SinkSeen) (verdict status : ℕ) (file : Option (List ℕ))
     → Promises asked (outside (as_shelf before) start) (outside (as_shelf after) said) verdict
     → start ≡ errors → file ≡ after.output → Delivers file output output-after verdict status
     → StreamsFile asked (around before output errors) (around after output-after errors-after) status
-streams_lines asked before after output output-after errors errors-after start said verdict status file promises begins same
+streams_file asked before after output output-after errors errors-after start said verdict status file promises begins same
     delivers =
     record {
       verdict = verdict;

@@ -33,8 +33,8 @@ pub data Delivers (file : Option (List ℕ)) (before after : SinkSeen) (verdict 
       → Delivers file before after verdict 0
   NotPut : verdict ≡ 0 → Rose before.faults after.faults → Delivers file before after verdict 4
 
--- The verb's text went to standard error, which then had `said`, and the file OUT to standard output. If lines of JSON
--- are made of the text, `said` has no bytes that contracts see.
+-- The verb's text is for standard error, which would then have `said`, and the file OUT went to standard output. The
+-- text is kept back until the file was printed, so `said` has no bytes that contracts see.
 pub record StreamsFile (asked : Option Work) (before after : Around) (status : ℕ) : Type 0 where
   pub verdict : ℕ
   pub said : SinkSeen

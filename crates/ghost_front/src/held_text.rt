@@ -1,4 +1,4 @@
-//! Keeps a verb's text back, so that it can be printed to standard error as lines of JSON.
+//! Keeps a verb's text back, so that it can be printed to standard error after its file, and as lines of JSON.
 
 ghost use Rattle.std.specs.Prelude.{◌≡◌};
 ghost use Rattle.ghost_front.specs.HeldText.{held_seen};

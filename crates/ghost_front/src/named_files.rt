@@ -7,7 +7,7 @@ use command_words::verbs::{matches_of, verb_named};
 use fault_texts::FileKind;
 use ghost_tools::{Count, Diff, Expand, Layout, Listing, Profile, Test, Tool};
 use gr_base::Memory;
-use object_tools::words;
+use run_tools::words;
 use std::alloc::Global;
 
 /// The names under which the verbs' rows have files to read, with the kind of each file.

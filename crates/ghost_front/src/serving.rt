@@ -98,7 +98,8 @@ fn serve_verb<'a, F: Shelf + Drop, O: Sink>(
     }
 }
 
-/// Does the work of a verb whose file goes to `out`, and whose text to `errors`.
+/// Does the work of a verb whose file goes to `out`, and whose text to `errors`, as lines of JSON if `as_lines` is true.
+/// The text is printed after the file, and left out if the file couldn't be printed, or if memory runs out for it.
 #[tactic(auto, using(crate::proofs::CallEnds::streams_file))]
 fn serve_to_output<'a, F: Shelf + Drop, O: Sink, E: Sink>(
     alloc: Global,
@@ -111,49 +112,32 @@ fn serve_to_output<'a, F: Shelf + Drop, O: Sink, E: Sink>(
     ensures { StreamsFile (work_of (texts words.now)) (around shelf.old (O.seen out.old) (E.seen errors.old))
         (around shelf.new (O.seen out.new) (E.seen errors.new)) result.status }
 {
-    if as_lines {
-        return serve_as_lines(alloc, words, shelf, out, errors);
-    }
-    let verdict = ghostrider(alloc, words, shelf, errors);
-    Ended {
-        status: deliver(verdict, shelf.output(), out),
-        stop: None,
-    }
-}
-
-/// The same, with the verb's text as lines of JSON. The text is left out if the file couldn't be printed, or if memory
-/// runs out for it.
-#[tactic(auto, using(crate::proofs::CallEnds::streams_lines))]
-fn serve_as_lines<'a, F: Shelf + Drop, O: Sink, E: Sink>(
-    alloc: Global,
-    words: &[&str],
-    shelf: &mut StreamShelf<F>,
-    out: &mut O,
-    errors: &mut E,
-) -> Ended<'a>
-    ensures { StreamsFile (work_of (texts words.now)) (around shelf.old (O.seen out.old) (E.seen errors.old))
-        (around shelf.new (O.seen out.new) (E.seen errors.new)) result.status }
-{
     let mut held = HeldText::new(alloc, errors);
     let verdict = ghostrider(alloc, words, shelf, &mut held);
     let text = held.into_text();
     let status = deliver(verdict, shelf.output(), out);
-    put_as_lines(alloc, verdict, status, text, errors);
+    put_held(alloc, as_lines, verdict, status, text, errors);
     Ended { status, stop: None }
 }
 
-// Prints a verb's text as lines of JSON, unless the file that it is about couldn't be printed, or memory ran out.
-fn put_as_lines<E: Sink>(
+// Prints a verb's text, unless the file that it is about couldn't be printed, or memory ran out.
+fn put_held<E: Sink>(
     alloc: Global,
+    as_lines: bool,
     verdict: u8,
     status: u8,
     text: Option<Vec<u8>>,
     errors: &mut E,
 ) {
-    if status == verdict
-        && let Some(text) = text
-        && let Ok(lines) = as_json(alloc, status, text.as_slice())
-    {
+    let Some(text) = text else {
+        return;
+    };
+    if status != verdict {
+        return;
+    }
+    if !as_lines {
+        put_text(text.as_slice(), errors);
+    } else if let Ok(lines) = as_json(alloc, status, text.as_slice()) {
         put_text(lines.as_slice(), errors);
     }
 }

@@ -9,9 +9,9 @@ use command_words::verbs::VerbWords;
 use compile_step::object_of;
 use gr_outside::Shelf;
 use object_tools::profiling::profile_report;
-use object_tools::reports::{Outcome, Tool};
-use object_tools::sources::{SourceWords, accepted_of, read_source, source_in_words};
-use object_tools::words::OF_SOURCE;
+use run_tools::reports::{Outcome, Tool};
+use run_tools::sources::{SourceWords, accepted_of, read_source, source_in_words};
+use run_tools::words::OF_SOURCE;
 use std::alloc::Global;
 
 /// The source, the name of the file of inputs, and the number of cycles.

@@ -4,8 +4,8 @@ use compile_step::object_of;
 use gr_base::Memory;
 use object_tools::listing_lines::listing_report;
 use object_tools::reasons::layout_lines;
-use object_tools::reports::{Outcome, Report};
-use object_tools::sources::{ReadSource, SourceTool, SourceWords};
+use run_tools::reports::{Outcome, Report};
+use run_tools::sources::{ReadSource, SourceTool, SourceWords};
 use std::alloc::Global;
 
 /// The tool `layout SRC [--fast] [--block-log W] [--window P:O:C] [--procs]`: compiles a program in memory, and prints in

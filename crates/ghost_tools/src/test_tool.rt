@@ -1,6 +1,6 @@
 ghost use Rattle.std.specs.Prelude.{◌≡◌, ◌≤◌, IfOk, IfSome};
 ghost use Rattle.lt_isa.specs.Prelude.{ProfileFits};
-ghost use Rattle.object_tools.specs.Prelude.{status_of};
+ghost use Rattle.run_tools.specs.Prelude.{status_of};
 
 use call_replies::replies::{InputFault, Reply, Verdict};
 use clap::ArgMatches;
@@ -9,10 +9,10 @@ use command_words::verbs::VerbWords;
 use compile_step::object_of;
 use gr_base::Memory;
 use gr_outside::Shelf;
-use object_tools::reports::{Outcome, Report, Tool};
-use object_tools::sources::{SourceWords, accepted_of, read_file, read_source, source_in_words};
-use object_tools::suites::{Subject, Tried, try_cases};
-use object_tools::words::OF_SOURCE;
+use run_tools::reports::{Outcome, Report, Tool};
+use run_tools::sources::{SourceWords, accepted_of, read_file, read_source, source_in_words};
+use run_tools::suites::{Subject, Tried, try_cases};
+use run_tools::words::OF_SOURCE;
 use std::alloc::Global;
 
 /// The most bytes of a file of cases.

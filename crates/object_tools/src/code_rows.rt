@@ -1,24 +1,28 @@
 //! In which row of a table each instruction of a compiled program is: a row for each line of the source, and one for the
 //! start and the end.
 
-ghost use Rattle.std.specs.Prelude.{◌≡◌, length};
+ghost use Rattle.std.specs.Prelude.{◌≡◌, IfOk, length};
 ghost use Rattle.lt_isa.specs.Prelude.{ProfileFits};
 
 use crate::procedure_lines::lines_without_calls;
 use crate::reasons::slots_of;
 use crate::source_texts::SourceText;
-use crate::sources::{ReadSource, SourceWords};
 use call_steps::targets::Target;
 use flow_types::Typed;
 use gr_base::Memory;
 use line_costs::{CompiledCode, Owner, Owners, Part, owners_of};
 use lt_isa::Instr;
 use procs_parser::parse_procs;
+use run_tools::reports::Report;
+use run_tools::sources::{ReadSource, SourceWords};
 use src_parser::ParseError;
 use std::alloc::Global;
 
 /// The row of the loads at a program's start and the stores at its end. Each line of the source has the row of its number.
 pub(crate) const START_AND_END: u32 = 0;
+
+/// The status if the code isn't of the form that the compiler gives it.
+const OTHER_FORM: u8 = 1;
 
 /// In which row each instruction of a program is.
 #[derive(Drop)]
@@ -56,6 +60,16 @@ pub(crate) fn rows_of_code(
         parts,
         used,
     }))
+}
+
+/// The report of a tool that prints nothing, since the code has an unknown form.
+pub(crate) fn other_form(alloc: Global, tool: &str) -> Result<Report, Memory>
+    ensures { IfOk result (λ report. report.status ≡ 1) }
+{
+    Ok(Report {
+        status: OTHER_FORM,
+        text: format!(in alloc; "no {tool}: the code of this program has an unknown form\n")?,
+    })
 }
 
 // The statement of each instruction of a program's code.

@@ -1,12 +1,12 @@
 ghost use Rattle.std.specs.Prelude.{◌≡◌, IfSome};
 ghost use Rattle.lt_isa.specs.Prelude.{ProfileFits};
 
-use crate::reports::{Outcome, Report, Tool};
-use crate::sources::{SourceWords, read_source, source_in_words};
-use crate::words::OF_SOURCE;
 use clap::ArgMatches;
 use command_words::verbs::VerbWords;
 use gr_outside::Shelf;
+use run_tools::reports::{Outcome, Report, Tool};
+use run_tools::sources::{SourceWords, read_source, source_in_words};
+use run_tools::words::OF_SOURCE;
 use source_faults::without_calls;
 use std::alloc::Global;
 

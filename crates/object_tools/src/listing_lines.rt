@@ -3,15 +3,15 @@
 ghost use Rattle.std.specs.Prelude.{◌≡◌, ◌⊎◌, IfOk};
 ghost use Rattle.lt_isa.specs.Prelude.{ProfileFits};
 
-use crate::code_rows::{CodeRows, START_AND_END, rows_of_code};
+use crate::code_rows::{CodeRows, START_AND_END, other_form, rows_of_code};
 use crate::profile_lines::push_number;
-use crate::reports::{Report, other_form};
 use crate::source_texts::{piece, push_ascii};
-use crate::sources::{ReadSource, SourceWords};
 use gr_base::Memory;
 use line_costs::Part;
 use lt_assembler::disassemble;
 use lt_isa::{Instr, Object, latency};
+use run_tools::reports::Report;
+use run_tools::sources::{ReadSource, SourceWords};
 use std::alloc::Global;
 
 /// The most bytes of a source line that are printed.
@@ -67,10 +67,7 @@ pub fn listing_report(
 // The listing of an object, with the row of each of its instructions.
 fn listing_text(alloc: Global, object: &Object, rows: &CodeRows) -> Result<String, Memory> {
     let assembly = disassemble(alloc, object)?;
-    let mut lines = Vec::new(alloc);
-    for line in rows.source.text.split(|byte| *byte == b'\n') {
-        lines.push(line)?;
-    }
+    let lines = lines_of(alloc, &rows.source.text)?;
     let mut listing = Listing {
         text: String::from_str(alloc, HEAD)?,
         place: 0,
@@ -89,6 +86,15 @@ fn listing_text(alloc: Global, object: &Object, rows: &CodeRows) -> Result<Strin
         }
     }
     Ok(listing.text)
+}
+
+// The lines of a text.
+fn lines_of<'a>(alloc: Global, text: &'a [u8]) -> Result<Vec<&'a [u8]>, Memory> {
+    let mut lines = Vec::new(alloc);
+    for line in text.split(|byte| *byte == b'\n') {
+        lines.push(line)?;
+    }
+    Ok(lines)
 }
 
 impl<'a> Listing<'a> {

@@ -19,16 +19,27 @@ pub(crate) fn table(alloc: Global, rows: &CodeRows, costs: &Costs) -> Result<Str
     text.push_str("      cycles    accesses     padding  line\n")?;
     push_row(alloc, &mut text, costs, START_AND_END as usize)?;
     text.push_str("     -  start and end\n")?;
-    for (number, line) in rows.source.text.split(|byte| *byte == b'\n').enumerate() {
-        let row = number.saturating_add(1);
-        if rows.is_used(row) {
-            push_row(alloc, &mut text, costs, row)?;
-            push_line(alloc, &mut text, row, line)?;
-        }
-    }
+    push_lines(alloc, &mut text, rows, costs)?;
     push_total(alloc, &mut text, costs)?;
     push_end(alloc, &mut text, costs.end)?;
     Ok(text)
+}
+
+// Adds the rows of the lines that have instructions.
+fn push_lines(
+    alloc: Global,
+    text: &mut String,
+    rows: &CodeRows,
+    costs: &Costs,
+) -> Result<(), Memory> {
+    for (number, line) in rows.source.text.split(|byte| *byte == b'\n').enumerate() {
+        let row = number.saturating_add(1);
+        if rows.is_used(row) {
+            push_row(alloc, text, costs, row)?;
+            push_line(alloc, text, row, line)?;
+        }
+    }
+    Ok(())
 }
 
 fn push_end(alloc: Global, text: &mut String, end: End) -> Result<(), Memory> {

@@ -4,16 +4,16 @@ ghost use Rattle.std.specs.Prelude.{◌≡◌, ◌⊎◌, ◌≤◌, IfOk, lengt
 ghost use Rattle.lt_isa.specs.Prelude.{IsInRange, ProfileFits, FitsObject, final, start_state, trace};
 ghost use Rattle.processor.specs.Prelude.{EndsAs};
 ghost use Rattle.line_costs.specs.Prelude.{accesses_of, CountsSteps, end_cycle, total};
-ghost use Rattle.object_tools.specs.Statuses.{SaysOfOne};
+ghost use Rattle.run_tools.specs.Statuses.{SaysOfOne};
 
-use crate::code_rows::{CodeRows, rows_of_code};
+use crate::code_rows::{CodeRows, other_form, rows_of_code};
 use crate::profile_lines::table;
-use crate::reports::{Report, end_status, other_form};
-use crate::sources::{ReadSource, SourceWords};
 use call_steps::given::Given;
 use call_steps::oblivious::{SeededOram, load_seeded};
 use gr_base::Memory;
 use line_costs::{Costs, run_costs};
+use run_tools::reports::{Report, end_status};
+use run_tools::sources::{ReadSource, SourceWords};
 use std::alloc::Global;
 
 /// The report of what each line of a source costs in the run of its object on inputs. The status says how the run

@@ -3,9 +3,7 @@
 ghost use Rattle.std.specs.Prelude.{◌≡◌, IfOk, length};
 ghost use Rattle.lt_isa.specs.Prelude.{ProfileFits};
 
-use crate::source_texts::{Access, SourceText};
-use crate::sources::{ReadSource, SourceWords};
-use crate::variables::{label_text, number_of, push_name};
+use crate::source_texts::{Access, SourceText, push_ascii};
 use bank_alloc::banks;
 use call_steps::targets::Target;
 use compiled_objects::fast_plan;
@@ -13,6 +11,8 @@ use flow_types::Typed;
 use gr_base::Memory;
 use gr_word::{Name, Shape};
 use lt_isa::{BankKind, Object, Symbol, bank_kind};
+use run_tools::sources::{ReadSource, SourceWords};
+use run_tools::variables::{label_text, number_of};
 use scratch_alloc::{Pin, SlotPlan, slots};
 use src_tree::Decl;
 use std::alloc::Global;
@@ -131,20 +131,27 @@ impl Reasons<'_> {
     fn push_oram(&self, alloc: Global, text: &mut String, symbol: &Symbol) -> Result<(), Memory> {
         text.push_str("; oblivious")?;
         if let Some(access) = self.access_to(symbol) {
-            let spot = self.source.spot_of(access);
-            let (line, column) = (spot.line, spot.column);
-            text.push_str(": the index of ")?;
-            self.source.push_access(text, access)?;
-            text.push_str(format!(in alloc; " at {line}:{column}")?.as_str())?;
-            if self.source.expanded {
-                text.push_str(" of the program without calls")?;
-            }
-            text.push_str(" is secret")?;
+            self.push_secret(alloc, text, access)?;
         }
         if let Some(bank) = self.object.banks().get(usize::from(symbol.bank)) {
             let cycles = bank.latency;
             text.push_str(format!(in alloc; "; an access takes {cycles} cycles")?.as_str())?;
         }
+        Ok(())
+    }
+
+    // Adds an access with a secret index, and where it is in the text.
+    fn push_secret(&self, alloc: Global, text: &mut String, access: Access) -> Result<(), Memory> {
+        text.push_str(": the index of ")?;
+        self.source.push_access(text, access)?;
+        let spot = self.source.spot_of(access);
+        let (line, column) = (spot.line, spot.column);
+        text.push_str(format!(in alloc; " at {line}:{column}")?.as_str())?;
+        text.push_str(if self.source.expanded {
+            " of the program without calls is secret"
+        } else {
+            " is secret"
+        })?;
         Ok(())
     }
 
@@ -172,28 +179,31 @@ impl Reasons<'_> {
 
     // Adds the slots that hold a variable for the whole run: one for each block that has words of it.
     fn push_pinned(&self, alloc: Global, text: &mut String, symbol: &Symbol) -> Result<(), Memory> {
-        let block_log = self.object.profile().block_log;
-        let mut numbers = String::new(alloc);
-        let mut several = false;
-        for (slot, pin) in self.slots.pins.iter().enumerate() {
-            let Some(pin) = *pin else {
-                continue;
-            };
-            if has_words_of(pin, symbol, block_log) {
-                several = !numbers.is_empty();
-                if several {
-                    numbers.push_str(", ")?;
-                }
-                numbers.push_str(format!(in alloc; "{slot}")?.as_str())?;
-            }
-        }
-        text.push_str(if several {
+        let slots = self.pinned_slots(alloc, symbol)?;
+        text.push_str(if slots.len() > 1 {
             "; resident: slots "
         } else {
             "; resident: slot "
         })?;
-        text.push_str(numbers.as_str())?;
+        for (at, slot) in slots.iter().enumerate() {
+            let comma = if at == 0 { "" } else { ", " };
+            text.push_str(format!(in alloc; "{comma}{slot}")?.as_str())?;
+        }
         Ok(())
+    }
+
+    // The slots that hold blocks with words of a variable for the whole run.
+    fn pinned_slots(&self, alloc: Global, symbol: &Symbol) -> Result<Vec<usize>, Memory> {
+        let block_log = self.object.profile().block_log;
+        let mut found = Vec::new(alloc);
+        for (slot, pin) in self.slots.pins.iter().enumerate() {
+            if let Some(pin) = *pin {
+                if has_words_of(pin, symbol, block_log) {
+                    found.push(slot)?;
+                }
+            }
+        }
+        Ok(found)
     }
 
     // Adds the other variables of a slot.
@@ -209,8 +219,8 @@ impl Reasons<'_> {
         for (other, (decl, own)) in self.decls.iter().zip(slots).enumerate() {
             if other != number && *own == slot {
                 if sharers < MOST_NAMED {
-                    text.push_str(if sharers == 0 { ", shared with " } else { ", " })?;
-                    push_name(text, self.source.name_of(other, &decl.name))?;
+                    let comma = if sharers == 0 { ", shared with " } else { ", " };
+                    self.push_sharer(text, comma, other, decl)?;
                 }
                 sharers = sharers.saturating_add(1);
             }
@@ -221,6 +231,18 @@ impl Reasons<'_> {
         }
         Ok(())
     }
+
+    // Adds a text, and then the name of a variable, by its number.
+    fn push_sharer(
+        &self,
+        text: &mut String,
+        before: &str,
+        number: usize,
+        decl: &Decl,
+    ) -> Result<(), Memory> {
+        text.push_str(before)?;
+        push_ascii(text, self.source.name_of(number, &decl.name).bytes())
+    }
 }
 
 // Adds the name of a variable, and where it is stored.
@@ -230,18 +252,33 @@ fn push_place(
     symbol: &Symbol,
     name: &Name,
 ) -> Result<(), Memory> {
+    push_declared(alloc, text, symbol, name)?;
+    push_memory(alloc, text, symbol.bank)?;
+    let Symbol {
+        block,
+        word,
+        length,
+        ..
+    } = symbol;
+    let unit = if *length == 1 { "word" } else { "words" };
+    text.push_str(format!(in alloc; ", block {block}, word {word}, {length} {unit}")?.as_str())?;
+    Ok(())
+}
+
+// Adds the label and the name of a variable, and the length of an array.
+fn push_declared(
+    alloc: Global,
+    text: &mut String,
+    symbol: &Symbol,
+    name: &Name,
+) -> Result<(), Memory> {
     text.push_str(label_text(symbol.label))?;
     text.push_str(" ")?;
-    push_name(text, name)?;
-    let length = symbol.length;
+    push_ascii(text, name.bytes())?;
     if let Shape::Array = symbol.shape {
+        let length = symbol.length;
         text.push_str(format!(in alloc; "[{length}]")?.as_str())?;
     }
-    push_memory(alloc, text, symbol.bank)?;
-    let block = symbol.block;
-    let word = symbol.word;
-    let unit = if length == 1 { "word" } else { "words" };
-    text.push_str(format!(in alloc; ", block {block}, word {word}, {length} {unit}")?.as_str())?;
     Ok(())
 }
 

@@ -1,6 +1,6 @@
 use Rattle.std.proofs.Common.{ap, ◌∙◌}
 use Rattle.lt_isa.specs.Prelude.{State}
-use Rattle.object_tools.proofs.Begun.{first-cycle, first-place}
+use Rattle.run_tools.proofs.Begun.{first-cycle, first-place}
 use Rattle.object_tools.proofs.profiling.costs_of_run.Goals as goal
 
 pub run_costs-requires-clause-place : goal.run_costs-requires-clause-place

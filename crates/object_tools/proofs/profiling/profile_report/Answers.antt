@@ -1,7 +1,7 @@
 use Rattle.std.proofs.Common.{inr, sym, subst}
 use Rattle.lt_isa.specs.Prelude.{trace}
-use Rattle.object_tools.specs.Prelude.{SaysOfOne}
-use Rattle.object_tools.proofs.StatusLaws.{says-as}
+use Rattle.run_tools.specs.Prelude.{SaysOfOne}
+use Rattle.run_tools.proofs.StatusLaws.{says-as}
 use Rattle.object_tools.proofs.profiling.profile_report.Goals as goal
 
 pub returns : goal.returns

@@ -1,5 +1,5 @@
 use Rattle.std.proofs.Common.{◌∙◌}
-use Rattle.object_tools.proofs.FilesStay.{any_work, files-stay}
+use Rattle.run_tools.proofs.FilesStay.{any_work, files-stay}
 use Rattle.ghost_tools.proofs.profile_tool.ProfileTool.serve.Goals as goal
 
 pub returns-in_err-inputs : goal.returns-in_err-inputs
