@@ -30,7 +30,7 @@ extern "C" {
 
 #define GR_MOST_BYTES 33554432u
 
-/* Why an object is refused. docs/REFUSALS.md has an example of each, and how to fix it. */
+/* Why an object is refused. docs/ERRORS.md has an example of each, and how to fix it. */
 enum gr_reason {
     GR_SECRET_ADDRESS = 1,        /* a secret names a block of plain or encrypted memory */
     GR_SECRET_TO_RAM = 2,         /* a secret would go to plain memory */

@@ -1,6 +1,6 @@
 /*
  * check OBJ: says whether an object is accepted, as `ghostrider check` does: the same line and the same status, by the rules
- * of docs/FORMATS.md, docs/MACHINE.md and docs/REFUSALS.md. The measure of bench/check.
+ * of docs/FORMATS.md, docs/MACHINE.md and docs/ERRORS.md. The measure of bench/check.
  */
 #include "checking.h"
 #include "files.h"

@@ -1,6 +1,6 @@
 /*
  * The check of objects: whether what the bus shows of every run depends on public inputs alone. The rules, and the
- * reasons 1 to 13 for which an object is refused, are those of docs/MACHINE.md and docs/REFUSALS.md.
+ * reasons 1 to 13 for which an object is refused, are those of docs/MACHINE.md and docs/ERRORS.md.
  */
 #ifndef CHECKING_H
 #define CHECKING_H

@@ -1,7 +1,7 @@
 /*
  * compile SRC OUT [--block-log W] [--fast]: writes the object file of the program that a source text spells, as
  * `ghostrider compile` does: the same bytes, or the line and the status of the text's first fault, by the rules of
- * docs/LANGUAGE.md, docs/PERFORMANCE.md and docs/REFUSALS.md. The measure of bench/compile.
+ * docs/LANGUAGE.md, docs/PERFORMANCE.md and docs/ERRORS.md. The measure of bench/compile.
  */
 #include "emitting.h"
 #include "files.h"

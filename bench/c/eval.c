@@ -2,7 +2,7 @@
  * eval SRC INPUT OUT [--turns N]: evaluates a program on inputs, and writes what its variables hold at the end.
  *
  * The lines, the statuses and the file are those of `ghostrider eval`, by the rules of docs/FORMATS.md, docs/LANGUAGE.md
- * and docs/REFUSALS.md. The measure of bench/eval.
+ * and docs/ERRORS.md. The measure of bench/eval.
  */
 #include "files.h"
 #include "inputs.h"

@@ -1,6 +1,6 @@
 /*
  * Programs of the source language: their variables and statements, how a text spells them, and when they are well typed
- * and within the limits (docs/LANGUAGE.md, "Grammar", and docs/REFUSALS.md).
+ * and within the limits (docs/LANGUAGE.md, "Grammar", and docs/ERRORS.md).
  */
 #ifndef SOURCE_H
 #define SOURCE_H

@@ -2,9 +2,11 @@
 share."""
 import json
 import os
+import pathlib
 import re
 import shutil
 import subprocess
+import tempfile
 
 SECONDS = 60
 
@@ -96,6 +98,40 @@ def make_file(program, root, line, folder):
         change(folder, parts[0], lambda data: data[:int(parts[1])])
     elif verb == 'put':
         change(folder, parts[0], lambda data: with_byte(data, int(parts[1]), int(parts[2])))
+    elif verb == 'many':
+        name, count, text = rest.split(' ', 2)
+        with open(os.path.join(folder, name), 'ab') as file:
+            before, hash_, after = bytes_of(text).partition(b'#')
+            file.writelines(before + (str(number).encode() if hash_ else b'') + after for number in range(int(count)))
+    elif verb == 'size':
+        with open(os.path.join(folder, parts[0]), 'wb') as file:
+            file.truncate(int(parts[1]))
+    elif verb == 'more':
+        with open(os.path.join(folder, parts[0]), 'ab') as file:
+            file.write(bytes(int(parts[1])))
     else:
         return False
     return True
+
+
+# ---- good files
+
+GOOD = b'public int n; secret int a[4]; secret int s; public int i;\n' \
+       b'i = 0;\nwhile (i < n) { s = s + a[i]; i = i + 1; }\n'
+
+
+def write(folder, name, data):
+    with open(os.path.join(folder, name), 'wb') as file:
+        file.write(data)
+
+
+def good_files(program):
+    """The bytes of a good file of each kind, and of a second object that has a place on a bus beside the first."""
+    with tempfile.TemporaryDirectory() as folder:
+        for name, data in (('good.gr', GOOD), ('good.json', b'{"n":3}'), ('good.cases', b'{"in":{"n":3}}\n')):
+            write(folder, name, data)
+        for words in (['compile', 'good.gr', 'good.obj', '--window', '20000:0:8000'],
+                      ['compile', 'good.gr', 'second.obj', '--window', '20000:10000:18000'],
+                      ['dis', 'good.obj', 'good.asm']):
+            called(program, words, folder)
+        return {path.name: pathlib.Path(path).read_bytes() for path in os.scandir(folder)}

@@ -9,12 +9,10 @@ from collections import namedtuple
 PROGRAM, ROOT = sys.argv[1:3]
 import explained  # noqa: E402
 import many  # noqa: E402
-from explained import Failed, agree, bytes_of, make_file  # noqa: E402
+from explained import Failed, agree, make_file, write  # noqa: E402
 from places import misplaced  # noqa: E402
 
 ROWS = f'{ROOT}/tests/explained/faults.rows'
-GOOD = b'public int n; secret int a[4]; secret int s; public int i;\n' \
-       b'i = 0;\nwhile (i < n) { s = s + a[i]; i = i + 1; }\n'
 READ = {'SRC': ('good.gr', 'text'), 'OBJ': ('good.obj', 'object'), 'INPUT': ('good.json', 'input'),
         'CASES': ('good.cases', 'input'), 'TEXT': ('good.asm', 'asm')}
 """The good file for an argument, and the name of the file of a row."""
@@ -85,7 +83,7 @@ def rows_and_options():
 
 def row_of(lines):
     argument, _, line = lines[0][4:].partition(' ')
-    files, said = [], {'with': [], 'words': [], 'verbs': [], 'but': [], 'at': [], 'has': []}
+    files, said = [], {'with': [], 'words': [], 'verbs': [], 'but': [], 'at': [], 'has': [], 'rule': []}
     for each in lines[1:]:
         verb, _, rest = each.partition(' ')
         if verb in said:
@@ -101,38 +99,8 @@ def row_of(lines):
 def make_files(row, folder):
     """Makes the files of a row."""
     for line in row.lines:
-        verb, _, rest = line.partition(' ')
-        if verb == 'many':
-            name, count, text = rest.split(' ', 2)
-            with open(f'{folder}/{name}', 'ab') as file:
-                file.writelines(bytes_of(text.replace('#', str(number))) for number in range(int(count)))
-        elif verb == 'size':
-            name, count = rest.split()
-            with open(f'{folder}/{name}', 'wb') as file:
-                file.truncate(int(count))
-        elif verb == 'more':
-            name, count = rest.split()
-            with open(f'{folder}/{name}', 'ab') as file:
-                file.write(bytes(int(count)))
-        elif not make_file(PROGRAM, ROOT, line, folder):
+        if not make_file(PROGRAM, ROOT, line, folder):
             raise Failed(f'no such line: {line}')
-
-
-def write(folder, name, data):
-    with open(os.path.join(folder, name), 'wb') as file:
-        file.write(data)
-
-
-def good_files():
-    """The bytes of a good file of each kind, and of a second object that has a place on a bus beside the first."""
-    with tempfile.TemporaryDirectory() as folder:
-        for name, data in (('good.gr', GOOD), ('good.json', b'{"n":3}'), ('good.cases', b'{"in":{"n":3}}\n')):
-            write(folder, name, data)
-        for words in (['compile', 'good.gr', 'good.obj', '--window', '20000:0:8000'],
-                      ['compile', 'good.gr', 'second.obj', '--window', '20000:10000:18000'],
-                      ['dis', 'good.obj', 'good.asm']):
-            explained.called(PROGRAM, words, folder)
-        return {name: many.read(os.path.join(folder, name)) for name in os.listdir(folder)}
 
 
 def words_of(verb, place=None, name=None):
@@ -347,7 +315,7 @@ def without_row(known, unreached, cases):
 # ---- all of it
 
 OUTSIDE = {'fault 4 write', 'fault 5 memory'}
-FILES = good_files()
+FILES = explained.good_files(PROGRAM)
 
 
 def chunks(lists, most=40):
