@@ -12,42 +12,42 @@ use Rattle.stretches.proofs.Passed.{GoesOn, NoMore, One, goes-then, rules-li, ru
 use Rattle.gr_word.specs.declared.variables.Label.TheVariants.{Public}
 use Rattle.held_registers.specs.Prelude.{IsSoundHeld}
 use Rattle.held_registers.proofs.Found.{number-held}
-use Rattle.block_cache_gen.specs.Prelude.{Carries, Home, Setting, label_by, operand_part, operand_register, held_number, applied_code, reducing, reducer, least_word, compared_code, reduced_code, shift_code, fixed_code, load_code}
+use Rattle.block_cache_gen.specs.Prelude.{Carries, Home, Setting, label_by, operand_part, operand_register, held_number, applied_code, reducing, reducer, least_word, compared_code, reduced_code, shift_code, fixed_code, load_code, first_kept}
 use Rattle.block_cache_gen.proofs.KeptRegisters.{SameBelow, same-itself, same-lower, same-set, same-then, carries-same, or_false}
 
 -- After straight code a register and the next have a label, and the registers below are as before.
-pub record Labelled (o : Parts) (p : ℕ) (code : List Instr) (to : ℕ) (before : Known) (word block : Bool) : Type 0 where
+pub record Labelled (o : Parts) (f : Setting) (p : ℕ) (code : List Instr) (to : ℕ) (before : Known) (word block : Bool) : Type 0 where
   pub after : Known
   pub goes : GoesOn o p code before after
-  pub same : SameBelow to before after
+  pub same : SameBelow f to before after
   pub word_is : is_secret after to ≡ word
   pub block_is : is_secret after (to + 1) ≡ block
 
 -- the same of one register
-pub record Placed (o : Parts) (p : ℕ) (code : List Instr) (to : ℕ) (before : Known) (word : Bool) : Type 0 where
+pub record Placed (o : Parts) (f : Setting) (p : ℕ) (code : List Instr) (to : ℕ) (before : Known) (word : Bool) : Type 0 where
   pub after : Known
   pub goes : GoesOn o p code before after
-  pub same : SameBelow to before after
+  pub same : SameBelow f to before after
   pub word_is : is_secret after to ≡ word
 
 -- an operation on a register and a number: the result has the label of the register
 pub applied-placed : (o : Parts) (f : Setting) → IsSoundHeld f.decls f.held → (op : Op) (to from own : ℕ) (z : ℤ) (p : ℕ)
-    (k : Known) → Carries f k → to ≤ own → own < 19 → from ≢ own
-    → Placed o p (applied_code f op to from own z) to k (is_secret k from)
+    (k : Known) → Carries f k → to ≤ own → own < first_kept f → from ≢ own
+    → Placed o f p (applied_code f op to from own z) to k (is_secret k from)
 applied-placed o f sound op to from own z p k carries le low apart = by (held_number f z) refl
   where
     by : (q : Option ℕ) → held_number f z ≡ q
-        → Placed o p (operand_part q (Li own z ∷ []) ++ Alu op to from (operand_register q own) ∷ []) to k (is_secret k from)
+        → Placed o f p (operand_part q (Li own z ∷ []) ++ Alu op to from (operand_register q own) ∷ []) to k (is_secret k from)
     by None is =
         let sized = carries.registers in
         let one = set_secret k own false in
-        let first = same-set to k k own false le low (same-itself to k) in
+        let first = same-set f to k k own false le low (same-itself f to k) in
         let size : length one.secret ≡ 32 = first.sized ∙ sized in
         record {
           after = set_secret one to (is_secret one from || is_secret one own);
           goes = One p _ _ k one _ (rules-li o p k own z)
               (One (p + 1) _ _ one _ _ (rules-alu o (p + 1) one op to from own) (NoMore (p + 1 + 1) _));
-          same = same-set to k one to _ (omega arith) (omega arith) first;
+          same = same-set f to k one to _ (omega arith) (omega arith) first;
           word_is = secret-same one to (is_secret one from || is_secret one own) (omega arith)
               ∙ ap (λ (b : Bool). b || is_secret one own) (secret-other k own from false apart)
               ∙ ap (λ (b : Bool). is_secret k from || b) (secret-same k own false (omega arith))
@@ -59,32 +59,32 @@ applied-placed o f sound op to from own z p k carries le low apart = by (held_nu
         record {
           after = set_secret k to (is_secret k from || is_secret k r);
           goes = One p _ _ k _ _ (rules-alu o p k op to from r) (NoMore (p + 1) _);
-          same = same-set to k k to _ (omega arith) (omega arith) (same-itself to k);
+          same = same-set f to k k to _ (omega arith) (omega arith) (same-itself f to k);
           word_is = secret-same k to (is_secret k from || is_secret k r) (omega arith)
               ∙ ap (λ (b : Bool). is_secret k from || b) (carries.held r Public label)
               ∙ or_false (is_secret k from);
         }
 
 -- the code of the numbers of words and blocks
-module _ (o : Parts) (f : Setting) (sound : IsSoundHeld f.decls f.held) (to : ℕ) (low : to + 2 < 19) where
+module _ (o : Parts) (f : Setting) (sound : IsSoundHeld f.decls f.held) (to : ℕ) (low : to + 2 < first_kept f) where
   apart_own : to ≢ to + 1
   apart_own e = absurd (omega (arith, e))
 
   -- the number of the array's first word is added
   pub offset_by : (h : Home) (from : ℕ) → from ≢ to + 1 → (p : ℕ) (k : Known) → Carries f k
-      → Placed o p (applied_code f Add to from (to + 1) (pos h.word)) to k (is_secret k from)
+      → Placed o f p (applied_code f Add to from (to + 1) (pos h.word)) to k (is_secret k from)
   offset_by h from apart p k carries =
       applied-placed o f sound Add to from (to + 1) (pos h.word) p k carries (omega arith) (omega arith) apart
 
   -- without a comparison
   pub reduced-numbered : (h : Home) (from : ℕ) → from ≢ to + 1 → (p : ℕ) (k : Known) → Carries f k
-      → Placed o p (reduced_code f h to from) to k (is_secret k from)
+      → Placed o f p (reduced_code f h to from) to k (is_secret k from)
   reduced-numbered h from apart p k carries =
       applied-placed o f sound (reducing h) to from (to + 1) (reducer h) p k carries (omega arith) (omega arith) apart
 
   -- the number of the block is found
   pub shifted-numbered : (h : Home) (p : ℕ) (k : Known) → Carries f k
-      → Labelled o p (shift_code f h to) to k (is_secret k to) (is_secret k to)
+      → Labelled o f p (shift_code f h to) to k (is_secret k to) (is_secret k to)
   shifted-numbered h p k carries =
       let log = pos f.profile.block_log in
       let shift = applied_code f Shr (to + 1) to (to + 1) log in
@@ -93,29 +93,29 @@ module _ (o : Parts) (f : Setting) (sound : IsSoundHeld f.decls f.held) (to : �
       let carried = carries-same f (to + 1) k first.after carries first.same in
       let second = applied-placed o f sound Add (to + 1) (to + 1) (to + 2) (pos h.block) (p + length shift) first.after
       carried (omega arith) (omega arith) (λ e. absurd (omega (arith, e))) in
-      let both = same-then (to + 1) k first.after second.after first.same second.same in
+      let both = same-then f (to + 1) k first.after second.after first.same second.same in
       record {
         after = second.after;
         goes = goes-then o p shift (applied_code f Add (to + 1) (to + 1) (to + 2) (pos h.block)) k first.after
             second.after first.goes second.goes;
-        same = same-lower to (to + 1) k second.after (omega arith) both;
+        same = same-lower f to (to + 1) k second.after (omega arith) both;
         word_is = both.registers to (omega arith);
         block_is = second.word_is ∙ first.word_is;
       }
 
-module _ (o : Parts) (to : ℕ) (low : to + 2 < 19) where
+module _ (o : Parts) (f : Setting) (to : ℕ) (low : to + 2 < first_kept f) where
   -- the remainder of an index in a register
   module _ (k : Known) (sized : length k.secret ≡ 32) where
     reduced_known : Known
     reduced_known =
         let one = set_secret k (to + 1) false in set_secret one to (is_secret one to || is_secret one (to + 1))
 
-    first_set : SameBelow to k (set_secret k (to + 1) false)
-    first_set = same-set to k k (to + 1) false (omega arith) (omega arith) (same-itself to k)
+    first_set : SameBelow f to k (set_secret k (to + 1) false)
+    first_set = same-set f to k k (to + 1) false (omega arith) (omega arith) (same-itself f to k)
 
-    reduced_same : SameBelow to k reduced_known
+    reduced_same : SameBelow f to k reduced_known
     unfolding reduced_known
-    reduced_same = same-set to k (set_secret k (to + 1) false) to _ (omega arith) (omega arith) first_set
+    reduced_same = same-set f to k (set_secret k (to + 1) false) to _ (omega arith) (omega arith) first_set
 
     reduced_word : is_secret reduced_known to ≡ is_secret k to
     unfolding reduced_known
@@ -151,12 +151,12 @@ module _ (o : Parts) (to : ℕ) (low : to + 2 < 19) where
     compared_known = set_secret with_sum (to + 2) false
 
     -- the lower registers are as before, and so is the index
-    pub compared_same : SameBelow (to + 1) k compared_known
+    pub compared_same : SameBelow f (to + 1) k compared_known
     unfolding compared_known
     compared_same =
-        same-set (to + 1) k with_sum (to + 2) false (omega arith) (omega arith)
-        (same-set (to + 1) k with_least (to + 1) _ (omega arith) (omega arith)
-        (same-set (to + 1) k k (to + 1) false (omega arith) (omega arith) (same-itself (to + 1) k)))
+        same-set f (to + 1) k with_sum (to + 2) false (omega arith) (omega arith)
+        (same-set f (to + 1) k with_least (to + 1) _ (omega arith) (omega arith)
+        (same-set f (to + 1) k k (to + 1) false (omega arith) (omega arith) (same-itself f (to + 1) k)))
 
     pub compared_word : is_secret compared_known to ≡ false
     compared_word = compared_same.registers to (omega arith) ∙ public
@@ -166,7 +166,7 @@ module _ (o : Parts) (to : ℕ) (low : to + 2 < 19) where
     unfolding compared_known
     compared_sum =
         let size : length with_least.secret ≡ 32 =
-        (same-set to k k (to + 1) false (omega arith) (omega arith) (same-itself to k)).sized ∙ sized in
+        (same-set f to k k (to + 1) false (omega arith) (omega arith) (same-itself f to k)).sized ∙ sized in
         secret-other with_sum (to + 2) (to + 1) false (λ e. absurd (omega arith))
         ∙ secret-same with_least (to + 1) sum_label (omega arith)
         ∙ ap (λ (b : Bool). b || is_secret with_least to) (secret-same k (to + 1) false (omega arith))
@@ -176,8 +176,8 @@ module _ (o : Parts) (to : ℕ) (low : to + 2 < 19) where
     compared_length : is_secret compared_known (to + 2) ≡ false
     unfolding compared_known
     compared_length =
-        let first = same-set to k k (to + 1) false (omega arith) (omega arith) (same-itself to k) in
-        let second = same-set to k with_least (to + 1) sum_label (omega arith) (omega arith) first in
+        let first = same-set f to k k (to + 1) false (omega arith) (omega arith) (same-itself f to k) in
+        let second = same-set f to k with_least (to + 1) sum_label (omega arith) (omega arith) first in
         let size : length with_sum.secret ≡ 32 = second.sized ∙ sized in
         secret-same with_sum (to + 2) false (omega arith)
 
@@ -188,10 +188,10 @@ module _ (o : Parts) (to : ℕ) (low : to + 2 < 19) where
     pub divided_known : Known
     divided_known = reduced_known compared_known compared_sized
 
-    pub divided_same : SameBelow to k divided_known
+    pub divided_same : SameBelow f to k divided_known
     unfolding divided_known
     divided_same =
-        same-then to k compared_known (reduced_known compared_known compared_sized)
+        same-then f to k compared_known (reduced_known compared_known compared_sized)
         (record {
           sized = compared_same.sized;
           count = compared_same.count;
@@ -225,17 +225,17 @@ module _ (o : Parts) (to : ℕ) (low : to + 2 < 19) where
 
   -- both where the index is a number
   pub fixed-numbered : (block_log : ℕ) (h : Home) (z : ℤ) (p : ℕ) (k : Known) → length k.secret ≡ 32
-      → Labelled o p (fixed_code block_log h to z) to k false false
+      → Labelled o f p (fixed_code block_log h to z) to k false false
   fixed-numbered block_log h z p k sized =
       let one = set_secret k to false in
-      let first = same-set to k k to false (omega arith) (omega arith) (same-itself to k) in
+      let first = same-set f to k k to false (omega arith) (omega arith) (same-itself f to k) in
       let size : length one.secret ≡ 32 = first.sized ∙ sized in
       record {
         after = set_secret one (to + 1) false;
         goes
             = One p _ _ k one _ (rules-li o p k to _)
             (One (p + 1) _ _ one _ _ (rules-li o (p + 1) one (to + 1) _) (NoMore (p + 1 + 1) _));
-        same = same-set to k one (to + 1) false (omega arith) (omega arith) first;
+        same = same-set f to k one (to + 1) false (omega arith) (omega arith) first;
         word_is = secret-other one (to + 1) to false (λ e. absurd (omega arith)) ∙ secret-same k to false (omega arith);
         block_is = secret-same one (to + 1) false (omega arith);
       }
@@ -257,9 +257,9 @@ module _ (o : Parts) (to : ℕ) (low : to + 2 < 19) where
     asked_known = set_secret k (to + 2) false
 
     -- the lower registers are as before
-    pub asked_same : SameBelow (to + 2) k asked_known
+    pub asked_same : SameBelow f (to + 2) k asked_known
     unfolding asked_known
-    asked_same = same-set (to + 2) k k (to + 2) false (omega arith) (omega arith) (same-itself (to + 2) k)
+    asked_same = same-set f (to + 2) k k (to + 2) false (omega arith) (omega arith) (same-itself f (to + 2) k)
 
     -- the number of the slot's block is public
     pub asked_block : is_secret asked_known (to + 2) ≡ false

@@ -19,7 +19,7 @@ use Rattle.scratch_alloc.proofs.Serving.{serves-within}
 use Rattle.block_cache_gen.specs.declared.frames.Mode.{Mode}
 use Rattle.block_cache_gen.specs.declared.frames.Mode.TheVariants.{Public, Real, Mirrored}
 use Rattle.block_cache_gen.specs.declared.indexes.Numbering.{Numbering}
-use Rattle.block_cache_gen.specs.Prelude.{Home, Setting, HasHomes, home_of, words_a_block, numbered_register, skips, is_cached, fixed_index, fixed_word, located_code, fixed_code, numbered_code, shift_code, load_code, access_by, StandsFor, FitsHomes, IsBlockOf, ArrayAccess, access_of, accesses, word_number, block_in, slots_after, may_skip, is_held, seen_of, seen_of_all, LeavesWord}
+use Rattle.block_cache_gen.specs.Prelude.{Home, Setting, HasHomes, home_of, words_a_block, numbered_register, skips, is_cached, fixed_index, fixed_word, located_code, fixed_code, numbered_code, shift_code, load_code, access_by, StandsFor, FitsHomes, IsBlockOf, ArrayAccess, access_of, accesses, word_number, block_in, slots_after, may_skip, is_held, seen_of, seen_of_all, LeavesWord, first_kept}
 use Rattle.block_cache_gen.proofs.AccessLaws.{slots_after-append, seen_of_all-append, may_skip-is, seen_of-unskipped}
 use Rattle.block_cache_gen.proofs.HomeFacts.{serves-cached, block-of, block-exists, block-small, profile-fits}
 use Rattle.block_cache_gen.proofs.Stands.{stands-like, stands-loaded}
@@ -27,15 +27,17 @@ use Rattle.block_cache_gen.proofs.IndexRuns.{FitsNumbering, Locates, Numbers, nu
 use Rattle.block_cache_gen.proofs.Kept.{Keeps, keeps-set}
 use Rattle.block_cache_gen.proofs.OperandRuns.{LeavesAt, RunsValue}
 
--- the block of an access is loaded; the registers up to `to` and from 19 on and the banks are as before
-pub record Loads (a : ArrayAccess) (to : ℕ) (s t : State) : Type 0 where
+-- the block of an access is loaded; the registers up to `to` and those that no expression uses and the banks are as
+-- before
+pub record Loads (f : Setting) (a : ArrayAccess) (to : ℕ) (s t : State) : Type 0 where
   pub below : (r : ℕ) → r ≤ to → register t r ≡ register s r
-  pub above : (r : ℕ) → 19 ≤ r → register t r ≡ register s r
+  pub above : (r : ℕ) → first_kept f ≤ r → register t r ≡ register s r
   pub banks : t.banks ≡ s.banks
   pub slots : t.slots ≡ slots_after s.banks s.slots (a ∷ [])
 
-loads-after : (a : ArrayAccess) (to : ℕ) (s t u : State) → Keeps (to + 1) s t → Loads a to t u → Loads a to s u
-loads-after a to s t u keeps loads = record {
+loads-after : (f : Setting) (a : ArrayAccess) (to : ℕ) (s t u : State) → Keeps f (to + 1) s t → Loads f a to t u
+    → Loads f a to s u
+loads-after f a to s t u keeps loads = record {
   below = λ r under. loads.below r under ∙ keeps.below r (omega arith);
   above = λ r over. loads.above r over ∙ keeps.above r over;
   banks = loads.banks ∙ keeps.banks;
@@ -100,7 +102,7 @@ module _ (o : Parts) (fits : IsInRange o) (f : Setting) (homes : HasHomes o f) (
       (read_event (home_of f x).bank ((home_of f x).block + n / words_a_block f)
       (block_in s.banks (home_of f x).bank ((home_of f x).block + n / words_a_block f))
       ∷ [])
-      (Loads (record { home = home_of f x; block = (home_of f x).block + n / words_a_block f }) to s)
+      (Loads f (record { home = home_of f x; block = (home_of f x).block + n / words_a_block f }) to s)
   runs-ldb to n s shaped within has at =
       let h = home_of f x in
       let b = h.block + n / words_a_block f in
@@ -109,18 +111,18 @@ module _ (o : Parts) (fits : IsInRange o) (f : Setting) (homes : HasHomes o f) (
       let named : block_named o h.bank (register s (to + 1)) ≡ b =
       ap (λ word. block_named o h.bank word) has ∙ mod-eq_of_lt exists in
       runs-one s (Ldb h.slot h.bank (to + 1)) (read_event h.bank b (block_in s.banks h.bank b) ∷ [])
-      (Loads (record { home = h; block = b }) to s) at
-      (λ stands. comes-ldb o fits s shaped h.slot h.bank (to + 1) b (Loads (record { home = h; block = b }) to s) stands
+      (Loads f (record { home = h; block = b }) to s) at
+      (λ stands. comes-ldb o fits s shaped h.slot h.bank (to + 1) b (Loads f (record { home = h; block = b }) to s) stands
       named (record { below = λ r under. refl; above = λ r over. refl; banks = refl; slots = refl }))
 
   -- the load, where it may be skipped and where it may not
   runs-skipping : (mode : Mode) (to n : ℕ) (s : State) → IsShaped o s → StandsFor f s store → n < (home_of f x).length
-      → to + 2 < 19 → register s (to + 1) ≡ pos ((home_of f x).block + n / words_a_block f)
+      → to + 2 < first_kept f → register s (to + 1) ≡ pos ((home_of f x).block + n / words_a_block f)
       → may_skip mode (home_of f x) ≡ true → (home_of f x).bank < 2
       → StandsAt o s.place (load_code true (home_of f x) to)
       → RunsThrough o s (load_code true (home_of f x) to)
       (seen_of mode s.banks s.slots (record { home = home_of f x; block = (home_of f x).block + n / words_a_block f }))
-      (Loads (record { home = home_of f x; block = (home_of f x).block + n / words_a_block f }) to s)
+      (Loads f (record { home = home_of f x; block = (home_of f x).block + n / words_a_block f }) to s)
   runs-skipping mode to n s shaped stands within small has may few at =
       let h = home_of f x in
       let b = h.block + n / words_a_block f in
@@ -131,10 +133,10 @@ module _ (o : Parts) (fits : IsInRange o) (f : Setting) (homes : HasHomes o f) (
       let branch = Br Eq (to + 2) (to + 1) (pos 2) in
       let load = Ldb h.slot h.bank (to + 1) in
       runs-cons s (Idb (to + 2) h.slot) (branch ∷ load ∷ []) [] (seen_of mode s.banks s.slots a)
-      (Sets s (to + 2) (pos c)) (Loads a to s) at
+      (Sets s (to + 2) (pos c)) (Loads f a to s) at
       (sets-idb o fits s shaped (to + 2) h.slot h.bank c bound.words (omega arith) bound.holds)
       (λ t shape sets at'.
-      let keeps : Keeps (to + 1) s t = keeps-set (to + 1) sets (omega arith) (omega arith) in
+      let keeps : Keeps f (to + 1) s t = keeps-set f (to + 1) sets (omega arith) (omega arith) in
       let has' : register t (to + 1) ≡ pos b = sets.others (to + 1) (λ same. absurd (omega arith)) ∙ has in
       let test : compared Eq (register t (to + 2)) (register t (to + 1)) ≡ (c == b) =
       ap (λ v. compared Eq v (register t (to + 1))) sets.value ∙ ap (λ v. compared Eq (pos c) v) has' in
@@ -154,8 +156,8 @@ module _ (o : Parts) (fits : IsInRange o) (f : Setting) (homes : HasHomes o f) (
       ∙ ap (λ v. cond v [] (read_event h.bank b (block_in s.banks h.bank b) ∷ []))
       (and_from (h.bank == h.bank) (b == b) (eq-eqb h.bank h.bank refl) (eq-eqb b b refl)) in
       comes-weaker (seen_of mode s.banks s.slots a) (t.place + length (branch ∷ load ∷ []))
-      (greatest_costs o (branch ∷ load ∷ [])) (Loads a to s)
-      (comes-br_taken o fits t shape Eq (to + 2) (to + 1) (pos 2) (Loads a to s) (standing-head branch (load ∷ []) at')
+      (greatest_costs o (branch ∷ load ∷ [])) (Loads f a to s)
+      (comes-br_taken o fits t shape Eq (to + 2) (to + 1) (pos 2) (Loads f a to s) (standing-head branch (load ∷ []) at')
       (test ∙ hit)
       (record {
         below = λ r under. keeps.below r (omega arith);
@@ -170,30 +172,30 @@ module _ (o : Parts) (fits : IsInRange o) (f : Setting) (homes : HasHomes o f) (
       bound.holds
       ∙ ap (λ v. cond v [] (read_event h.bank b (block_in s.banks h.bank b) ∷ []))
       (and_right (may_skip mode h) ((h.bank == h.bank) && (c == b)) (and_right (h.bank == h.bank) (c == b) miss)) in
-      runs-cons t branch (load ∷ []) [] (seen_of mode s.banks s.slots a) (Keeps (to + 2) t) (Loads a to s) at'
-      (λ stands'. comes-br_on o fits t shape Eq (to + 2) (to + 1) (pos 2) (Keeps (to + 2) t) stands' (test ∙ miss)
+      runs-cons t branch (load ∷ []) [] (seen_of mode s.banks s.slots a) (Keeps f (to + 2) t) (Loads f a to s) at'
+      (λ stands'. comes-br_on o fits t shape Eq (to + 2) (to + 1) (pos 2) (Keeps f (to + 2) t) stands' (test ∙ miss)
       (record { below = λ r under. refl; above = λ r over. refl; slots = refl; banks = refl }))
       (λ u shape' keeps' at''.
-      let all : Keeps (to + 1) s u = record {
+      let all : Keeps f (to + 1) s u = record {
         below = λ r under. keeps'.below r (omega arith) ∙ keeps.below r under;
         above = λ r over. keeps'.above r over ∙ keeps.above r over;
         slots = keeps'.slots ∙ keeps.slots;
         banks = keeps'.banks ∙ keeps.banks;
       } in
       runs-weaker u (load ∷ []) (read_event h.bank b (block_in u.banks h.bank b) ∷ []) (seen_of mode s.banks s.slots a)
-      (Loads a to u) (Loads a to s)
+      (Loads f a to u) (Loads f a to s)
       (runs-ldb to n u shape' within (keeps'.below (to + 1) (omega arith) ∙ has') at'')
       (ap (λ l. read_event h.bank b (block_in l h.bank b) ∷ []) all.banks ∙ sym seen)
-      (λ v shape'' loads. loads-after a to s u v all loads)))
+      (λ v shape'' loads. loads-after f a to s u v all loads)))
       (cases_Bool (c == b)))
 
   runs-load : (mode : Mode) (to n : ℕ) (s : State) → IsShaped o s → StandsFor f s store → n < (home_of f x).length
-      → to + 2 < 19 → register s (to + 1) ≡ pos ((home_of f x).block + n / words_a_block f)
+      → to + 2 < first_kept f → register s (to + 1) ≡ pos ((home_of f x).block + n / words_a_block f)
       → (skip : Bool) → may_skip mode (home_of f x) ≡ skip → (skip ≡ true → (home_of f x).bank < 2)
       → StandsAt o s.place (load_code skip (home_of f x) to)
       → RunsThrough o s (load_code skip (home_of f x) to)
       (seen_of mode s.banks s.slots (record { home = home_of f x; block = (home_of f x).block + n / words_a_block f }))
-      (Loads (record { home = home_of f x; block = (home_of f x).block + n / words_a_block f }) to s)
+      (Loads f (record { home = home_of f x; block = (home_of f x).block + n / words_a_block f }) to s)
   runs-load mode to n s shaped stands within small has true may few at =
       runs-skipping mode to n s shaped stands within small has may (few refl) at
   runs-load mode to n s shaped stands within small has false may few at =
@@ -201,14 +203,14 @@ module _ (o : Parts) (fits : IsInRange o) (f : Setting) (homes : HasHomes o f) (
       let b = h.block + n / words_a_block f in
       let a : ArrayAccess = record { home = h; block = b } in
       runs-weaker s (Ldb h.slot h.bank (to + 1) ∷ []) (read_event h.bank b (block_in s.banks h.bank b) ∷ [])
-      (seen_of mode s.banks s.slots a) (Loads a to s) (Loads a to s)
+      (seen_of mode s.banks s.slots a) (Loads f a to s) (Loads f a to s)
       (runs-ldb to n s shaped within has at)
       (sym (seen_of-unskipped mode s.banks s.slots a may))
       (λ t shape loads. loads)
 
   -- the word and the block are found
   runs-located : (mode : Mode) (to from : ℕ) (i : Tree) (code : List Instr) (s : State) → IsShaped o s
-      → StandsFor f s store → to + 2 < 19 → from ≢ to + 1
+      → StandsFor f s store → to + 2 < first_kept f → from ≢ to + 1
       → RunsValue o f store mode to from i code s → (way : Numbering)
       → FitsNumbering way (home_of f x) to from (evaluated f.decls store i) → (fixed : Option ℤ)
       → fixed_index (home_of f x) i ≡ fixed
@@ -229,7 +231,7 @@ module _ (o : Parts) (fits : IsInRange o) (f : Setting) (homes : HasHomes o f) (
       (access_of f store x (evaluated f.decls store e)).block s))
       (sym number)
       (runs-weaker s (fixed_code f.profile.block_log h to z) [] []
-      (Locates to (fixed_word h z) (h.block + fixed_word h z / w) s)
+      (Locates f to (fixed_word h z) (h.block + fixed_word h z / w) s)
       (Finds f store [] to n (h.block + n / w) s)
       (runs-fixed o fits f store f.profile.block_log h to z s shaped small at)
       refl
@@ -258,14 +260,14 @@ module _ (o : Parts) (fits : IsInRange o) (f : Setting) (homes : HasHomes o f) (
       (runs-append s code (number ++ shift_code f h to) seen [] (LeavesAt f store before to from index s) Found at run
       (λ t shape leaves at'.
       runs-append t number (shift_code f h to) [] []
-      (Numbers (numbered_register way to from) to (unsigned_of index % h.length) t) Found at'
+      (Numbers f (numbered_register way to from) to (unsigned_of index % h.length) t) Found at'
       (runs-numbered o fits f store way h to from t index shape leaves.stands leaves.value other own small home.length.0 home.length.1)
       (λ u shape' reduces at''.
       let word : register u to ≡ pos n =
       ap (register u) (sym (numbered-loaded way h to from index own turn)) ∙ reduces.word
       ∙ ap pos (word_number-is index) in
       let stands' = stands-like f t u store reduces.keeps.slots reduces.keeps.banks reduces.keeps.above leaves.stands in
-      runs-weaker u (shift_code f h to) [] [] (Locates to n (h.block + n / w) u) Found
+      runs-weaker u (shift_code f h to) [] [] (Locates f to n (h.block + n / w) u) Found
       (runs-block o fits f store h to u n shape' stands' word small log_small block_small at'')
       refl
       (λ v shape'' locates.
@@ -286,7 +288,7 @@ module _ (o : Parts) (fits : IsInRange o) (f : Setting) (homes : HasHomes o f) (
 
   -- the whole access
   pub runs-access : (way : Numbering) (mode : Mode) (to from : ℕ) (i : Tree) (code : List Instr) (s : State)
-      → IsShaped o s → StandsFor f s store → to + 2 < 19 → from ≢ to + 1
+      → IsShaped o s → StandsFor f s store → to + 2 < first_kept f → from ≢ to + 1
       → FitsNumbering way (home_of f x) to from (evaluated f.decls store i)
       → RunsValue o f store mode to from i code s → StandsAt o s.place
       (access_by false way f mode (home_of f x) to from (fixed_index (home_of f x) i) code)
@@ -316,7 +318,7 @@ module _ (o : Parts) (fits : IsInRange o) (f : Setting) (homes : HasHomes o f) (
       (runs-append s located load first second Found Done at
       (runs-located mode to from i code s shaped stands small other run way own fixed refl)
       (λ t shape finds at'.
-      runs-weaker t load (seen_of mode t.banks t.slots a) second (Loads a to t) Done
+      runs-weaker t load (seen_of mode t.banks t.slots a) second (Loads f a to t) Done
       (runs-load mode to n t shape finds.stands (word-within index) small finds.block (skips mode h)
       (may_skip-is mode h) (cached-bank mode h) at')
       (ap (λ b. seen_of mode b t.slots a) finds.banks ∙ ap (λ l. seen_of mode s.banks l a) finds.slots)

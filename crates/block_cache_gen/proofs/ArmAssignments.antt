@@ -18,7 +18,7 @@ use Rattle.stretches.specs.Prelude.{Show, Gap}
 use Rattle.trace_patterns.specs.Prelude.{SymSlot, AnySlot, RamSlot, EramSlot, OramSlot, SymState, tree_held, slot_held, slot_bank, applied_trees}
 use Rattle.stretches.proofs.ArmCode.{Walked, walked-none, walked-then}
 use Rattle.block_cache_gen.specs.declared.frames.Mode.{Mode}
-use Rattle.block_cache_gen.specs.Prelude.{further_slots, Setting, home_of, pin_of, slot_of_word, words_a_block, HasHomes, register_for, effect_of, fixed_word, stored_among, stored_by, may_skip_loads, fixed_index, expr_code, access_by, placed_code, store_code, stored_code, set_code, is_within_home, numbering_by, numbering, operand, operand_part, operand_register, operand_unless, indexed_code, write_code, target, keeps_label, straight, straight_code, scalar_set, CarriesInArm, IndexIsPublic, HasPublicIndexes, SetHasPublicIndexes, write_shows, operand_tree, index_by, word_gap, word_shows, block_tree, number_tree, store_shows, shows_among, stored_shows_by, stored_shows, Loads, no_loads, then_loads, element_slot, placed_shows, placed_tree, index_loads, shows_by, loads_by, tree_of_expr, shows_of_expr, slots_of_expr, shows_of_set, slots_of_set, operation_gap, operation_tree, operation_shows, operation_loads, scalar_set_shows}
+use Rattle.block_cache_gen.specs.Prelude.{further_slots, Setting, home_of, pin_of, slot_of_word, words_a_block, HasHomes, register_for, effect_of, fixed_word, stored_among, stored_by, may_skip_loads, fixed_index, expr_code, access_by, placed_code, store_code, stored_code, set_code, is_within_home, numbering_by, numbering, operand, operand_part, operand_register, operand_unless, indexed_code, write_code, target, keeps_label, straight, straight_code, scalar_set, CarriesInArm, IndexIsPublic, HasPublicIndexes, SetHasPublicIndexes, write_shows, operand_tree, index_by, word_gap, word_shows, block_tree, number_tree, store_shows, shows_among, stored_shows_by, stored_shows, Loads, no_loads, then_loads, element_slot, placed_shows, placed_tree, index_loads, shows_by, loads_by, tree_of_expr, shows_of_expr, slots_of_expr, shows_of_set, slots_of_set, operation_gap, operation_tree, operation_shows, operation_loads, scalar_set_shows, room_of}
 use Rattle.block_cache_gen.specs.declared.indexes.Numbering.{Numbering}
 use Rattle.lt_checker.proofs.Singles.{IsKnown, IsHidden}
 use Rattle.lt_isa.specs.declared.profiles.Profile.{Profile}
@@ -250,7 +250,7 @@ module _ (o : Parts) (f : Setting) (homes : HasHomes o f) (depth : ℕ) where
 
     -- an operand, which its code leaves in a register or which is in one
     value-leaves : (e : Tree) (s : SymState) (to : ℕ) → TypedTree (context_of f.decls) e → HasPublicIndexes f e
-        → to + height_of e ≤ 17 → CarriesInArm f s
+        → to + height_of e ≤ room_of f → CarriesInArm f s
         → LeavesIn o f depth s (operand_part (operand f e) (expr_code f mode to e))
         (operand_part (operand f e) (shows_of_expr f e)) to (operand_register (operand f e) to)
         (operand_tree f (operand f e) (tree_of_expr f e)) (slots_of_expr f e)
@@ -262,7 +262,7 @@ module _ (o : Parts) (f : Setting) (homes : HasHomes o f) (depth : ℕ) where
     straight-goes : (s : SymState) (x : List ℕ) → context_of f.decls x ≡ Some (Secret, Scalar) → (r : ℕ) (op : Op)
         (a b : Tree) → IsStraight f x r op a b → label_of (context_of f.decls) (Operation op a b) ≡ Secret
         → TypedTree (context_of f.decls) (Operation op a b) → HasPublicIndexes f (Operation op a b)
-        → height_of (Operation op a b) ≤ 17 → CarriesInArm f s
+        → height_of (Operation op a b) ≤ room_of f → CarriesInArm f s
         → Goes o f depth s (straight_code f mode (target mode r) (Operation op a b))
         (shows_of_expr f (Operation op a b)) (slots_of_expr f (Operation op a b))
     straight-goes s x declared r op a b is secret_value typed public low carries =
@@ -337,7 +337,7 @@ module _ (o : Parts) (f : Setting) (homes : HasHomes o f) (depth : ℕ) where
             let same : label_at (context_of f.decls) x ≡ typed.0.0 = ap label_or_public typed.0.1 in
             let declared = subst (λ (l : Label). context_of f.decls x ≡ Some (l, Scalar)) (sym same ∙ own) typed.0.1 in
             straight-by f x e r is
-            (λ t. TypedTree (context_of f.decls) t → HasPublicIndexes f t → height_of t ≤ 17
+            (λ t. TypedTree (context_of f.decls) t → HasPublicIndexes f t → height_of t ≤ room_of f
             → Goes o f depth s (straight_code f mode (target mode r) t) (shows_of_expr f t) (slots_of_expr f t))
             (λ op a b known typed_value public_value low_value.
             straight-goes s x declared r op a b known
@@ -390,7 +390,7 @@ module _ (o : Parts) (f : Setting) (homes : HasHomes o f) (depth : ℕ) where
 
     -- an index, in the register of an access to an array
     index-leaves : (near : Bool) (x : List ℕ) (i : Tree) (s : SymState) → TypedTree (context_of f.decls) i → HasPublicIndexes f i
-        → 1 + height_of i ≤ 17 → CarriesInArm f s
+        → 1 + height_of i ≤ room_of f → CarriesInArm f s
         → LeavesIn o f depth s (operand_part (index_by near f (home_of f x) i) (expr_code f mode 1 i))
         (operand_part (index_by near f (home_of f x) i) (shows_of_expr f i)) 1 (operand_register (index_by near f (home_of f x) i) 1)
         (operand_tree f (index_by near f (home_of f x) i) (tree_of_expr f i)) (slots_of_expr f i)
@@ -401,7 +401,8 @@ module _ (o : Parts) (f : Setting) (homes : HasHomes o f) (depth : ℕ) where
     -- an assignment to an element, after the code of its value
     element_by-goes : (b near : Bool) (s : SymState) (x : List ℕ) (i : Tree) (value : ℕ) → (home_of f x).resident ≡ b
         → context_of f.decls x ≡ Some (Secret, Array) → TypedTree (context_of f.decls) i
-        → IndexIsPublic f x i → HasPublicIndexes f i → 1 + height_of i ≤ 17 → IsOutside 1 4 value → CarriesInArm f s
+        → IndexIsPublic f x i → HasPublicIndexes f i → 1 + height_of i ≤ room_of f → IsOutside 1 4 value
+        → CarriesInArm f s
         → Goes o f depth s
         (access_by b (numbering_by near false) f mode (home_of f x) 1 (operand_register (index_by near f (home_of f x) i) 1)
         (fixed_index (home_of f x) i) (operand_part (index_by near f (home_of f x) i) (expr_code f mode 1 i))

@@ -16,7 +16,7 @@ use Rattle.stretches.specs.Prelude.{Show, Gap}
 use Rattle.trace_patterns.specs.Prelude.{SymSlot, AnySlot, SymState, tree_held, slot_held, hold_slot, applied_trees}
 use Rattle.stretches.proofs.ArmCode.{Walked, walked-none, walked-then}
 use Rattle.block_cache_gen.specs.declared.frames.Mode.{Mode}
-use Rattle.block_cache_gen.specs.Prelude.{Home, Setting, home_of, words_a_block, blocks_set, HasHomes, held_label, label_by, register_for, read_by, read_code, may_skip_loads, is_cached, held_number, applied_code, reducing, reducer, is_within_home, numbering_by, is_in_place, numbered_code, numbered_register, has_offset, fixed_index, fixed_word, scalar_code, reduced_code, shift_code, offset_code, placed_code, fixed_code, located_code, load_code, skips, access_by, operand, operand_part, operand_register, operand_unless, indexed_code, operation_code, steps_at, expr_code, guard_code, CarriesInArm, shows_index, HasPublicIndexes, TestHasPublicIndexes, read_shows_by, pinned_slot, number_in, applied_shows, reduced_shows, numbered_shows, index_by, shifted_shows, operation_gap, word_gap, word_read, tree_by, scalar_shows, offset_shows, scalar_tree, operand_tree, reduced_tree, numbered_tree, number_tree, shifted_tree, block_tree, placed_shows, placed_tree, shows_by, loads_by, element_by, found_shows, load_shows, Loads, no_loads, then_loads, one_load, index_loads, element_slot, step_gap, steps_tree, operation_tree, operation_shows, operation_loads, tree_of_expr, shows_of_expr, slots_of_expr, shows_of_test, slots_of_test}
+use Rattle.block_cache_gen.specs.Prelude.{Home, Setting, home_of, words_a_block, blocks_set, HasHomes, held_label, label_by, register_for, read_by, read_code, may_skip_loads, is_cached, held_number, applied_code, reducing, reducer, is_within_home, numbering_by, is_in_place, numbered_code, numbered_register, has_offset, fixed_index, fixed_word, scalar_code, reduced_code, shift_code, offset_code, placed_code, fixed_code, located_code, load_code, skips, access_by, operand, operand_part, operand_register, operand_unless, indexed_code, operation_code, steps_at, expr_code, guard_code, CarriesInArm, shows_index, HasPublicIndexes, TestHasPublicIndexes, read_shows_by, pinned_slot, number_in, applied_shows, reduced_shows, numbered_shows, index_by, shifted_shows, operation_gap, word_gap, word_read, tree_by, scalar_shows, offset_shows, scalar_tree, operand_tree, reduced_tree, numbered_tree, number_tree, shifted_tree, block_tree, placed_shows, placed_tree, shows_by, loads_by, element_by, found_shows, load_shows, Loads, no_loads, then_loads, one_load, index_loads, element_slot, step_gap, steps_tree, operation_tree, operation_shows, operation_loads, tree_of_expr, shows_of_expr, slots_of_expr, shows_of_test, slots_of_test, first_kept, room_of}
 use Rattle.block_cache_gen.specs.declared.indexes.Numbering.{Numbering}
 use Rattle.lt_isa.specs.declared.profiles.Profile.{Profile}
 use Rattle.strength_reduction.specs.Prelude.{Step, Constant, Compute, StepFits, reads_known, numbered, code_of}
@@ -67,7 +67,7 @@ number-apart false to from apart = λ e. absurd (omega (arith, e))
 module _ (o : Parts) (f : Setting) (homes : HasHomes o f) (depth : ℕ) where
   -- code that sets a register, by itself and after other code
   pub leaves-sets : (s : SymState) (code : List Instr) (shows : List Show) (to : ℕ) (tree : Option Value)
-      → CarriesInArm f s → to < 19 → Sets o depth s code shows to tree
+      → CarriesInArm f s → to < first_kept f → Sets o depth s code shows to tree
       → LeavesTree o f depth s code shows to tree no_loads
   leaves-sets s code shows to tree carries inside sets = record {
     state = sets.state;
@@ -82,7 +82,7 @@ module _ (o : Parts) (f : Setting) (homes : HasHomes o f) (depth : ℕ) where
   pub leaves-then_sets : {at : ℕ} (s : SymState) (code : List Instr) (shows : List Show) (from : ℕ) (old : Option Value)
       (loads : Loads) (first : LeavesIn o f depth s code shows from at old loads) (rest : List Instr) (more : List Show)
       (to : ℕ) (tree : Option Value)
-      → to ≤ from → to < 19 → Sets o depth first.state rest more to tree
+      → to ≤ from → to < first_kept f → Sets o depth first.state rest more to tree
       → LeavesTree o f depth s (code ++ rest) (shows ++ more) to tree loads
   leaves-then_sets s code shows from old loads first rest more to tree le inside sets = record {
     state = sets.state;
@@ -95,14 +95,14 @@ module _ (o : Parts) (f : Setting) (homes : HasHomes o f) (depth : ℕ) where
   }
 
   -- a number
-  pub number-leaves : (s : SymState) (to : ℕ) (z : ℤ) → CarriesInArm f s → to < 19
+  pub number-leaves : (s : SymState) (to : ℕ) (z : ℤ) → CarriesInArm f s → to < first_kept f
       → LeavesTree o f depth s (Li to z ∷ []) (Gap 1 ∷ []) to (Some (Const z)) no_loads
   number-leaves s to z carries inside =
       leaves-sets s (Li to z ∷ []) (Gap 1 ∷ []) to (Some (Const z)) carries inside
       (sets-li o depth s to z carries.registers (omega arith))
 
   -- a scalar, by the register that holds it
-  word-leaves : (s : SymState) (to : ℕ) (x : List ℕ) → CarriesInArm f s → to < 19
+  word-leaves : (s : SymState) (to : ℕ) (x : List ℕ) → CarriesInArm f s → to < first_kept f
       → UsedAs (context_of f.decls) x Scalar
       → LeavesTree o f depth s (scalar_code None (home_of f x) to) (scalar_shows f None) to
       (scalar_tree f None (home_of f x)) no_loads
@@ -120,7 +120,7 @@ module _ (o : Parts) (f : Setting) (homes : HasHomes o f) (depth : ℕ) where
       subst (λ (v : Option Value). LeavesTree o f depth s (scalar_code None h to) (scalar_shows f None) to v no_loads)
       (read.word place) whole
 
-  copy-leaves : (s : SymState) (to : ℕ) (x : List ℕ) → CarriesInArm f s → to < 19
+  copy-leaves : (s : SymState) (to : ℕ) (x : List ℕ) → CarriesInArm f s → to < first_kept f
       → UsedAs (context_of f.decls) x Scalar → (r : ℕ) → register_for f x ≡ Some r
       → LeavesTree o f depth s (scalar_code (Some r) (home_of f x) to) (scalar_shows f (Some r)) to
       (scalar_tree f (Some r) (home_of f x)) no_loads
@@ -133,7 +133,7 @@ module _ (o : Parts) (f : Setting) (homes : HasHomes o f) (depth : ℕ) where
       carries.registers (omega arith) (carries.held r used.0 own ∙ sym (ap (tree_by r) own))
       (carries.held public_zero Public zero))
 
-  scalar-leaves : (s : SymState) (to : ℕ) (x : List ℕ) → CarriesInArm f s → to < 19
+  scalar-leaves : (s : SymState) (to : ℕ) (x : List ℕ) → CarriesInArm f s → to < first_kept f
       → UsedAs (context_of f.decls) x Scalar → (found : Option ℕ) → register_for f x ≡ found
       → LeavesTree o f depth s (scalar_code found (home_of f x) to) (scalar_shows f found) to
       (scalar_tree f found (home_of f x)) no_loads
@@ -214,7 +214,8 @@ module _ (o : Parts) (f : Setting) (homes : HasHomes o f) (depth : ℕ) where
   }
 
   -- steps
-  steps-leave : (s : SymState) (to : ℕ) (steps : List Step) (value : Option Value) → CarriesInArm f s → to + 2 < 19
+  steps-leave : (s : SymState) (to : ℕ) (steps : List Step) (value : Option Value) → CarriesInArm f s
+      → to + 2 < first_kept f
       → All StepFits steps → IsTrue (reads_known (λ i. i == 0) steps) → tree_held s to ≡ value
       → LeavesTree o f depth s (code_of to steps) (map (step_gap f) steps) to (steps_tree steps value) no_loads
   steps-leave s to steps value carries inside fits reads held =
@@ -235,7 +236,7 @@ module _ (o : Parts) (f : Setting) (homes : HasHomes o f) (depth : ℕ) where
       }
 
   -- the place of an element, by an index that is a number
-  fixed-located : (s : SymState) (to : ℕ) (h : Home) (z : ℤ) → CarriesInArm f s → to + 2 < 19
+  fixed-located : (s : SymState) (to : ℕ) (h : Home) (z : ℤ) → CarriesInArm f s → to + 2 < first_kept f
       → LeavesTwo o f depth s (fixed_code f.profile.block_log h to z) (Gap 1 ∷ Gap 1 ∷ []) to
       (Some (Const (pos (fixed_word h z)))) (Some (Const (pos (h.block + fixed_word h z / words_a_block f)))) no_loads
   fixed-located s to h z carries inside =
@@ -247,7 +248,7 @@ module _ (o : Parts) (f : Setting) (homes : HasHomes o f) (depth : ℕ) where
 
   -- an operation on another register and a number, in the number's register or below
   number-applied : (s : SymState) (op : Op) (to from own : ℕ) (z : ℤ) (left : Option Value) → CarriesInArm f s
-      → own < 19 → to ≤ own → from ≢ own → tree_held s from ≡ left
+      → own < first_kept f → to ≤ own → from ≢ own → tree_held s from ≡ left
       → LeavesTree o f depth s (applied_code f op to from own z) (applied_shows f op z) to
       (applied_trees op left (number_in f z)) no_loads
   unfolding leaves-sets
@@ -274,7 +275,7 @@ module _ (o : Parts) (f : Setting) (homes : HasHomes o f) (depth : ℕ) where
           (omega arith) held own_tree)
 
   -- the number of a block, by a shift and a sum
-  block-leaves : (s : SymState) (to : ℕ) (h : Home) (number : Option Value) → CarriesInArm f s → to + 2 < 19
+  block-leaves : (s : SymState) (to : ℕ) (h : Home) (number : Option Value) → CarriesInArm f s → to + 2 < first_kept f
       → tree_held s to ≡ number
       → LeavesTree o f depth s (shift_code f h to) (shifted_shows f h) (to + 1) (shifted_tree f h number) no_loads
   block-leaves s to h number carries inside held =
@@ -291,14 +292,16 @@ module _ (o : Parts) (f : Setting) (homes : HasHomes o f) (depth : ℕ) where
       (shifted_tree f h number) no_loads (omega arith) two
 
   -- the index is reduced by a mask or by a remainder
-  reduced-leaves : (s : SymState) (to from : ℕ) (h : Home) (index : Option Value) → CarriesInArm f s → to + 2 < 19
+  reduced-leaves : (s : SymState) (to from : ℕ) (h : Home) (index : Option Value) → CarriesInArm f s
+      → to + 2 < first_kept f
       → from ≢ to + 1 → tree_held s from ≡ index
       → LeavesTree o f depth s (reduced_code f h to from) (reduced_shows f h) to (reduced_tree f h index) no_loads
   reduced-leaves s to from h index carries inside apart held =
       number-applied s (reducing h) to from (to + 1) (reducer h) index carries (omega arith) (omega arith) apart held
 
   -- so it is, unless it is the number of the word
-  numbered-leaves : (s : SymState) (to from : ℕ) (h : Home) (index : Option Value) → CarriesInArm f s → to + 2 < 19
+  numbered-leaves : (s : SymState) (to from : ℕ) (h : Home) (index : Option Value) → CarriesInArm f s
+      → to + 2 < first_kept f
       → from ≢ to + 1 → tree_held s from ≡ index → (within : Bool)
       → LeavesIn o f depth s (numbered_code (numbering_by within false) f h to from) (numbered_shows within f h) to
       (numbered_register (numbering_by within false) to from) (numbered_tree within f h index) no_loads
@@ -314,7 +317,7 @@ module _ (o : Parts) (f : Setting) (homes : HasHomes o f) (depth : ℕ) where
   }
 
   -- the place of an element by the index in a register
-  module _ (within : Bool) (to from : ℕ) (inside : to + 2 < 19) (apart : from ≢ to + 1)
+  module _ (within : Bool) (to from : ℕ) (inside : to + 2 < first_kept f) (apart : from ≢ to + 1)
       (own : within ≡ true → from ≡ to)
       (h : Home) (index : Option Value) where
     numbered-located : (s : SymState) → CarriesInArm f s → tree_held s from ≡ index
@@ -356,7 +359,7 @@ module _ (o : Parts) (f : Setting) (homes : HasHomes o f) (depth : ℕ) where
     located s None code shows loads carries first = index-located s code shows loads first
 
   -- the number of the array's first word is added, unless that is 0
-  offset-leaves : (s : SymState) (to at : ℕ) (h : Home) (tree : Option Value) → CarriesInArm f s → to + 2 < 19
+  offset-leaves : (s : SymState) (to at : ℕ) (h : Home) (tree : Option Value) → CarriesInArm f s → to + 2 < first_kept f
       → tree_held s at ≡ tree → at ≢ to + 1 → (first : Bool) → (first ≡ true → at ≡ to)
       → LeavesTree o f depth s (if first then [] else applied_code f Add to at (to + 1) (pos h.word))
       (if first then [] else applied_shows f Add (pos h.word)) to
@@ -375,7 +378,7 @@ module _ (o : Parts) (f : Setting) (homes : HasHomes o f) (depth : ℕ) where
   -- the place of a resident array's word in its block
   pub placed-leaves : (within : Bool) (s : SymState) (to from : ℕ) (h : Home) (fixed : Option ℤ) (index : Option Value)
       (code : List Instr) (shows : List Show) (loads : Loads) → CarriesInArm f s
-      → LeavesIn o f depth s code shows to from index loads → to + 2 < 19 → from ≢ to + 1
+      → LeavesIn o f depth s code shows to from index loads → to + 2 < first_kept f → from ≢ to + 1
       → (within ≡ true → (h.word == 0) ≡ true → from ≡ to)
       → LeavesTree o f depth s (placed_code (numbering_by within false) f h to from fixed code)
       (placed_shows within f h fixed shows) to (placed_tree within f h fixed index) (index_loads fixed loads)
@@ -406,7 +409,8 @@ module _ (o : Parts) (f : Setting) (homes : HasHomes o f) (depth : ℕ) where
     pub access-leaves : (near : Bool) (s : SymState) (to from : ℕ) (x : List ℕ) (fixed : Option ℤ)
         (index : Option Value)
         (code : List Instr) (shows : List Show) (loads : Loads) → CarriesInArm f s
-        → LeavesIn o f depth s code shows to from index loads → to + 2 < 19 → from ≢ to + 1 → (near ≡ true → from ≡ to)
+        → LeavesIn o f depth s code shows to from index loads → to + 2 < first_kept f → from ≢ to + 1
+        → (near ≡ true → from ≡ to)
         → (used : UsedAs (context_of f.decls) x Array) → (home_of f x).resident ≡ false
         → IsSeen (home_of f x).bank (block_tree near f (home_of f x) fixed index)
         → Accessed s (access_by false (numbering_by near false) f mode (home_of f x) to from fixed code)
@@ -453,7 +457,7 @@ module _ (o : Parts) (f : Setting) (homes : HasHomes o f) (depth : ℕ) where
     -- the word of an element, by the code of its index
     element_by-leaves : (b near : Bool) (s : SymState) (to from : ℕ) (x : List ℕ) (fixed : Option ℤ)
         (index : Option Value) (code : List Instr) (shows : List Show) (loads : Loads) → (home_of f x).resident ≡ b
-        → CarriesInArm f s → LeavesIn o f depth s code shows to from index loads → to + 3 < 19 → from ≢ to + 1
+        → CarriesInArm f s → LeavesIn o f depth s code shows to from index loads → to + 3 < first_kept f → from ≢ to + 1
         → (near ≡ true → has_offset (home_of f x) ≡ false → from ≡ to)
         → UsedAs (context_of f.decls) x Array → (shows_index (home_of f x) ≡ true → IsKnown index)
         → LeavesTree o f depth s
@@ -486,7 +490,7 @@ module _ (o : Parts) (f : Setting) (homes : HasHomes o f) (depth : ℕ) where
         there (Ldw to h.slot to ∷ []) (word_gap f ∷ []) to (word_read f bound number) (omega arith) (omega arith) word
 
     -- an index is in no register that the code of an access sets before it is read
-    pub index-apart : (near : Bool) (h : Home) (i : Tree) (to : ℕ) → to + 2 < 19
+    pub index-apart : (near : Bool) (h : Home) (i : Tree) (to : ℕ) → to + 2 < first_kept f
         → operand_register (index_by near f h i) to ≢ to + 1
     index-apart near h i to low =
         let apart = operand-apart f i (index_by near f h i) (is-index f near h i) to in
@@ -502,7 +506,7 @@ module _ (o : Parts) (f : Setting) (homes : HasHomes o f) (depth : ℕ) where
     element-leaves : (s : SymState) (to : ℕ) (x : List ℕ) (i : Tree) → TypedTree (context_of f.decls) i
         → CarriesInArm f s
         → LeavesTree o f depth s (expr_code f mode to i) (shows_of_expr f i) to (tree_of_expr f i) (slots_of_expr f i)
-        → to + 3 < 19 → UsedAs (context_of f.decls) x Array
+        → to + 3 < first_kept f → UsedAs (context_of f.decls) x Array
         → (shows_index (home_of f x) ≡ true
         → IsKnown (operand_tree f (index_by (is_within_home f (home_of f x) i) f (home_of f x) i) (tree_of_expr f i)))
         → LeavesTree o f depth s (expr_code f mode to (Element x i)) (shows_of_expr f (Element x i)) to
@@ -528,7 +532,7 @@ module _ (o : Parts) (f : Setting) (homes : HasHomes o f) (depth : ℕ) where
 
     -- an operation on two operands
     operation-leaves : (op : Op) (a b : Tree) → TypedTree (context_of f.decls) a → TypedTree (context_of f.decls) b
-        → (s : SymState) (to : ℕ) → to + 2 < 19 → CarriesInArm f s
+        → (s : SymState) (to : ℕ) → to + 2 < first_kept f → CarriesInArm f s
         → LeavesExpr s to a → ((t : SymState) → CarriesInArm f t → LeavesExpr t (to + 1) b)
         → LeavesTree o f depth s
         (operand_part (operand f a) (expr_code f mode to a)
@@ -564,7 +568,7 @@ module _ (o : Parts) (f : Setting) (homes : HasHomes o f) (depth : ℕ) where
 
     -- an operation, or the steps that replace it
     either-leaves : (op : Op) (a b : Tree) → TypedTree (context_of f.decls) a → TypedTree (context_of f.decls) b
-        → (s : SymState) (to : ℕ) → to + 2 < 19 → CarriesInArm f s
+        → (s : SymState) (to : ℕ) → to + 2 < first_kept f → CarriesInArm f s
         → LeavesExpr s to a → ((t : SymState) → CarriesInArm f t → LeavesExpr t (to + 1) b)
         → (found : Option (List Step)) → steps_at f op b ≡ found
         → LeavesTree o f depth s
@@ -588,7 +592,7 @@ module _ (o : Parts) (f : Setting) (homes : HasHomes o f) (depth : ℕ) where
 
     -- the code of an expression
     pub expr-leaves : (e : Tree) (s : SymState) (to : ℕ) → TypedTree (context_of f.decls) e → HasPublicIndexes f e
-        → to + height_of e ≤ 17 → CarriesInArm f s
+        → to + height_of e ≤ room_of f → CarriesInArm f s
         → LeavesTree o f depth s (expr_code f mode to e) (shows_of_expr f e) to (tree_of_expr f e) (slots_of_expr f e)
     expr-leaves (Number z) s to typed public low carries = number-leaves s to z carries (omega arith)
     expr-leaves (Variable x) s to typed public low carries =
@@ -604,7 +608,8 @@ module _ (o : Parts) (f : Setting) (homes : HasHomes o f) (depth : ℕ) where
 
     -- the code of a guard
     pub guard-leaves : (t : Test) (s : SymState) (to : ℕ) → TypedTest (context_of f.decls) t
-        → TestHasPublicIndexes f t → to + height_of t.left ≤ 17 → to + 1 + height_of t.right ≤ 17 → CarriesInArm f s
+        → TestHasPublicIndexes f t → to + height_of t.left ≤ room_of f → to + 1 + height_of t.right ≤ room_of f
+        → CarriesInArm f s
         → LeavesTwo o f depth s (guard_code f mode to t) (shows_of_test f t) to (tree_of_expr f t.left)
         (tree_of_expr f t.right) (slots_of_test f t)
     guard-leaves t s to typed public low next carries =

@@ -13,9 +13,9 @@ use Rattle.lt_isa.specs.Prelude.{Parts, is_ram, block_words}
 use Rattle.symbolic_values.specs.Prelude.{Value, SlotAt}
 use Rattle.src_tree.specs.Prelude.{context_of}
 use Rattle.stretches.specs.Prelude.{Show}
-use Rattle.trace_patterns.specs.Prelude.{Entry, SymSlot, AnySlot, RamSlot, EramSlot, OramSlot, SymState, tree_held, slot_held, hold_slot, slot_bank}
+use Rattle.trace_patterns.specs.Prelude.{Entry, SymSlot, AnySlot, RamSlot, SymState, tree_held, slot_held, hold_slot, slot_bank}
 use Rattle.stretches.proofs.ArmCode.{Walked}
-use Rattle.block_cache_gen.specs.Prelude.{Home, Setting, held_label, home_of, pin_of, IsPin, IsResidentHome, Serves, PlainSlot, EncryptedSlot, ObliviousSlot, HasHomes, CarriesInArm, held_tree, Loads, then_loads, one_load, word_read, pinned_slot}
+use Rattle.block_cache_gen.specs.Prelude.{Home, Setting, held_label, home_of, pin_of, IsPin, IsResidentHome, Serves, PlainSlot, EncryptedSlot, ObliviousSlot, HasHomes, CarriesInArm, held_tree, Loads, then_loads, one_load, word_read, pinned_slot, first_kept}
 use Rattle.bank_alloc.specs.Prelude.{scalar_bank}
 use Rattle.block_cache_gen.proofs.HeldLabels.{label-high, one-label}
 use Rattle.block_cache_gen.proofs.HomeFacts.{pinned-apart}
@@ -96,7 +96,7 @@ carries-slots f s t carries kept same registers slots = record {
 
 -- what the setting relies on depends only on the slots and on those registers
 pub carries-same : (f : Setting) (s t : SymState) → CarriesInArm f s → t.slots ≡ s.slots
-    → ((r : ℕ) → 19 ≤ r → tree_held t r ≡ tree_held s r) → length t.registers ≡ 32 → CarriesInArm f t
+    → ((r : ℕ) → first_kept f ≤ r → tree_held t r ≡ tree_held s r) → length t.registers ≡ 32 → CarriesInArm f t
 carries-same f s t carries same above sized =
     carries-slots f s t carries (λ k. ap (λ (slots : List SymSlot). get_or slots k AnySlot) same)
     (λ r label is. above r (label-high f r label is)) sized

@@ -18,7 +18,7 @@ use Rattle.scalar_ranges.specs.Prelude.{AreWithin}
 use Rattle.block_cache_gen.specs.declared.frames.Mode.{Mode}
 use Rattle.block_cache_gen.specs.declared.indexes.Numbering.{Numbering}
 use Rattle.block_cache_gen.specs.declared.frames.Mode.TheVariants.{Public, Real, Mirrored}
-use Rattle.block_cache_gen.specs.Prelude.{Setting, HasHomes, home_of, words_a_block, register_for, further_slots, fixed_index, access_by, placed_code, index_operand, operand, operand_part, operand_register, expr_code, store_code, stored_by, set_code, is_in_place, numbering, zero_of, copy_code, target, write_code, scalar_set, straight, straight_code, StandsFor, FitsHomes, access_of, accessed_by, accesses, word_number, block_in, slots_after, seen_of_all, Assigns, assigned, by_mode, words_written, write_by, seen_of_set, LeavesWord}
+use Rattle.block_cache_gen.specs.Prelude.{Setting, HasHomes, home_of, words_a_block, register_for, further_slots, fixed_index, access_by, placed_code, index_operand, operand, operand_part, operand_register, expr_code, store_code, stored_by, set_code, is_in_place, numbering, zero_of, copy_code, target, write_code, scalar_set, straight, straight_code, StandsFor, FitsHomes, access_of, accessed_by, accesses, word_number, block_in, slots_after, seen_of_all, Assigns, assigned, by_mode, words_written, write_by, seen_of_set, LeavesWord, room_of}
 use Rattle.block_cache_gen.proofs.AccessLaws.{seen_of_all-append}
 use Rattle.block_cache_gen.proofs.HomeFacts.{block_words-is}
 use Rattle.held_registers.proofs.Copies.{runs-copy}
@@ -87,7 +87,7 @@ module _ (o : Parts) (fits : IsInRange o) (f : Setting) (homes : HasHomes o f) (
 
   -- a scalar is written
   runs-written : (mode : Mode) (x : List ℕ) (label : Label) → context_of f.decls x ≡ Some (label, Scalar) → (l : Label)
-      (v : ℕ) → IsApart 0 v → (value : ℤ) (t : State) → IsShaped o t → StandsFor f t store → register t v ≡ value
+      (v : ℕ) → IsApart f 0 v → (value : ℤ) (t : State) → IsShaped o t → StandsFor f t store → register t v ≡ value
       → (found : Option ℕ) → register_for f x ≡ found → StandsAt o t.place (write_code f.reduces found l mode (home_of f x) v)
       → RunsThrough o t (write_code f.reduces found l mode (home_of f x) v) []
       (Assigns f (by_mode mode (with_word store (variable_number f.decls x) 0 value) store))
@@ -115,7 +115,7 @@ module _ (o : Parts) (fits : IsInRange o) (f : Setting) (homes : HasHomes o f) (
   -- an operation leaves its result in the register that holds a scalar
   runs-straight : AreWithin f.ranges store → (mode : Mode) (x : List ℕ) (label : Label)
       → context_of f.decls x ≡ Some (label, Scalar) → (r : ℕ) → register_for f x ≡ Some r → (op : Op) (a b : Tree)
-      → TypedTree (context_of f.decls) (Operation op a b) → height_of (Operation op a b) ≤ 17 → (s : State)
+      → TypedTree (context_of f.decls) (Operation op a b) → height_of (Operation op a b) ≤ room_of f → (s : State)
       → IsShaped o s → StandsFor f s store → StandsAt o s.place (straight_code f mode (target mode r) (Operation op a b))
       → RunsThrough o s (straight_code f mode (target mode r) (Operation op a b))
       (seen_of_set f mode s.banks s.slots store (SetVariable x (Operation op a b)))
@@ -170,7 +170,8 @@ module _ (o : Parts) (fits : IsInRange o) (f : Setting) (homes : HasHomes o f) (
 
   -- an assignment whose value is written after it is found
   runs-set_written : AreWithin f.ranges store → (mode : Mode) (x : List ℕ) (label : Label)
-      → context_of f.decls x ≡ Some (label, Scalar) → (e : Tree) → TypedTree (context_of f.decls) e → height_of e ≤ 17
+      → context_of f.decls x ≡ Some (label, Scalar) → (e : Tree) → TypedTree (context_of f.decls) e
+      → height_of e ≤ room_of f
       → (s : State) → IsShaped o s → StandsFor f s store → StandsAt o s.place (scalar_set None f mode x e)
       → RunsThrough o s (scalar_set None f mode x e) (seen_of_set f mode s.banks s.slots store (SetVariable x e))
       (Assigns f (by_mode mode (assigned f.decls (SetVariable x e) store) store))
@@ -194,7 +195,8 @@ module _ (o : Parts) (fits : IsInRange o) (f : Setting) (homes : HasHomes o f) (
 
   -- an assignment to a scalar
   pub runs-set_variable : AreWithin f.ranges store → (mode : Mode) (x : List ℕ) (label : Label)
-      → context_of f.decls x ≡ Some (label, Scalar) → (e : Tree) → TypedTree (context_of f.decls) e → height_of e ≤ 17
+      → context_of f.decls x ≡ Some (label, Scalar) → (e : Tree) → TypedTree (context_of f.decls) e
+      → height_of e ≤ room_of f
       → (s : State) → IsShaped o s → StandsFor f s store → StandsAt o s.place (set_code f mode (SetVariable x e))
       → RunsThrough o s (set_code f mode (SetVariable x e)) (seen_of_set f mode s.banks s.slots store (SetVariable x e))
       (Assigns f (by_mode mode (assigned f.decls (SetVariable x e) store) store))
@@ -206,7 +208,7 @@ module _ (o : Parts) (fits : IsInRange o) (f : Setting) (homes : HasHomes o f) (
       by None is at = runs-set_written in_ranges mode x label known e typed room s shaped stands at
       by (Some r) is at =
           straight-by f x e r is
-          (λ t. TypedTree (context_of f.decls) t → height_of t ≤ 17
+          (λ t. TypedTree (context_of f.decls) t → height_of t ≤ room_of f
           → StandsAt o s.place (straight_code f mode (target mode r) t)
           → RunsThrough o s (straight_code f mode (target mode r) t)
           (seen_of_set f mode s.banks s.slots store (SetVariable x t))
@@ -217,8 +219,8 @@ module _ (o : Parts) (fits : IsInRange o) (f : Setting) (homes : HasHomes o f) (
 
   -- the same where the array is resident or isn't
   runs-set_by : AreWithin f.ranges store → (mode : Mode) (x : List ℕ) (label : Label) → context_of f.decls x ≡ Some (label, Array)
-      → (i e : Tree) → TypedTree (context_of f.decls) i → TypedTree (context_of f.decls) e → 1 + height_of i ≤ 17
-      → height_of e ≤ 17 → (s : State) → IsShaped o s → StandsFor f s store
+      → (i e : Tree) → TypedTree (context_of f.decls) i → TypedTree (context_of f.decls) e → 1 + height_of i ≤ room_of f
+      → height_of e ≤ room_of f → (s : State) → IsShaped o s → StandsFor f s store
       → (way : Numbering) (resident : Bool) (from : ℕ) (index : List Instr) → from ≢ 2
       → FitsNumbering way (home_of f x) 1 from (evaluated f.decls store i)
       → ((t : State) → IsShaped o t → StandsFor f t store → RunsValue o f store mode 1 from i index t)
@@ -374,7 +376,8 @@ module _ (o : Parts) (fits : IsInRange o) (f : Setting) (homes : HasHomes o f) (
         stands =
             subst (StandsFor f _) (with_word-by_mode mode store k n value)
             (stands-element_set o fits f homes u shape' store store_fits accessed.leaves.stands x label known turn n
-            (word-within o fits f homes store store_fits x label known turn index) word _ slots banks binds.above);
+            (word-within o fits f homes store store_fits x label known turn index) word _ slots banks
+            (λ r over. binds.above r (omega (arith, over))));
         fits = by_mode-fits mode f (with_word store k n value) store
             (fits-with_word f store k n value is store_fits) store_fits;
       })))
@@ -385,8 +388,8 @@ module _ (o : Parts) (fits : IsInRange o) (f : Setting) (homes : HasHomes o f) (
 
   -- an assignment to an element
   pub runs-set_element : AreWithin f.ranges store → (mode : Mode) (x : List ℕ) (label : Label) → context_of f.decls x ≡ Some (label, Array)
-      → (i e : Tree) → TypedTree (context_of f.decls) i → TypedTree (context_of f.decls) e → 1 + height_of i ≤ 17
-      → height_of e ≤ 17
+      → (i e : Tree) → TypedTree (context_of f.decls) i → TypedTree (context_of f.decls) e → 1 + height_of i ≤ room_of f
+      → height_of e ≤ room_of f
       → (s : State) → IsShaped o s → StandsFor f s store → StandsAt o s.place (set_code f mode (SetElement x i e))
       → RunsThrough o s (set_code f mode (SetElement x i e))
       (seen_of_set f mode s.banks s.slots store (SetElement x i e))

@@ -8,7 +8,7 @@ use Rattle.lt_isa.specs.Prelude.{Parts, IsInRange, Unbound, Bound, State, regist
 use Rattle.src_tree.specs.Prelude.{context_of, Store, variable_number, words_of_number, with_word}
 use Rattle.src_tree.proofs.VariableNumbers.{number-below}
 use Rattle.scratch_alloc.proofs.Serving.{serves-within}
-use Rattle.block_cache_gen.specs.Prelude.{Home, Setting, HasHomes, HomesApart, no_home, home_of, words_a_block, start_of_home, StandsFor, FitsHomes, IsBlockOf}
+use Rattle.block_cache_gen.specs.Prelude.{Home, Setting, HasHomes, HomesApart, no_home, home_of, words_a_block, start_of_home, StandsFor, FitsHomes, IsBlockOf, first_kept}
 use Rattle.block_cache_gen.proofs.HomeFacts.{block_words-is, block_words-least, block-exists, word-split, word-block, word-place}
 use Rattle.block_cache_gen.proofs.HeldScalars.{array-free, held-words}
 use Rattle.block_cache_gen.proofs.Stands.{stands-like, stands-bound}
@@ -209,7 +209,7 @@ module _ (o : Parts) (fits : IsInRange o) (f : Setting) (homes : HasHomes o f) (
 
   -- with an element set the machine represents the store with it
   pub stands-element_set : (t : State) → t.slots ≡ written.slots → t.banks ≡ written.banks
-      → ((r : ℕ) → 19 ≤ r → register t r ≡ register s r)
+      → ((r : ℕ) → first_kept f ≤ r → register t r ≡ register s r)
       → StandsFor f t (with_word store (variable_number f.decls x) n word)
   stands-element_set t slots banks kept =
       stands-like f written t (with_word store (variable_number f.decls x) n word) slots banks kept stands-written

@@ -16,7 +16,7 @@ use Rattle.block_cache_gen.specs.declared.frames.Mode.{Mode}
 use Rattle.block_cache_gen.specs.declared.indexes.Numbering.{Numbering}
 use Rattle.block_cache_gen.specs.declared.indexes.Numbering.TheVariants.{Reduced}
 use Rattle.block_cache_gen.specs.declared.frames.Mode.TheVariants.{Public, Real, Mirrored}
-use Rattle.block_cache_gen.specs.Prelude.{Home, Setting, home_of, access_by, applied_code, found_by, is_cached, is_within_home, numbering, numbering_by, compared_code, least_word, numbered_code, numbered_register, offset_code, shift_code, fixed_code, load_code, skips, access_code, indexed_code, index_operand, fixed_index, operand, operand_part, operand_register, left_operand, operation_code, steps_at, expr_code, read_code, expr_notes, operand_mask, operation_notes, index_notes, compared_notes, loaded_notes, load_notes, access_mask, unmarked, note_of, Appended, no_notes, notes_in, access_notes, EmitsOperation, EmitsOperand, EmitsExpr, EmitsAccess, EmitsFixed, EmitsFound, EmitsLoad}
+use Rattle.block_cache_gen.specs.Prelude.{Home, Setting, home_of, access_by, applied_code, found_by, is_cached, is_within_home, numbering, numbering_by, compared_code, least_word, numbered_code, numbered_register, offset_code, shift_code, fixed_code, load_code, skips, access_code, indexed_code, index_operand, fixed_index, operand, operand_part, operand_register, left_operand, operation_code, steps_at, expr_code, read_code, expr_notes, operand_mask, operation_notes, index_notes, compared_notes, loaded_notes, load_notes, access_mask, unmarked, note_of, Appended, no_notes, notes_in, access_notes, EmitsOperation, EmitsOperand, EmitsExpr, EmitsAccess, EmitsFixed, EmitsFound, EmitsLoad, room_of}
 use Rattle.block_cache_gen.proofs.Emitting.{appended_then, appended_as, appended_length, silent_behind, silent_before, notes_both, notes_by}
 use Rattle.block_cache_gen.proofs.HeldOperands.{operand-short}
 use Rattle.block_cache_gen.proofs.Sizes.{expr_code_short, offset_length}
@@ -376,8 +376,10 @@ element_appended f mode mask to e x y i j k h a b c is same_name same_index same
     (subst R same_again read))
 
 -- steps have the registers that they use
-pub steps-low : (to : ℕ) (e : Tree) (op : Op) (l r : Tree) → e ≡ Operation op l r → to + height_of e ≤ 17 → to + 2 < 19
-steps-low to e op l r is high = let h = ap height_of is in omega (arith, height-some r)
+pub steps-low : (f : Setting) (to : ℕ) (e : Tree) (op : Op) (l r : Tree) → e ≡ Operation op l r
+    → to + height_of e ≤ room_of f
+    → to + 2 < 28
+steps-low f to e op l r is high = let h = ap height_of is in omega (arith, height-some r)
 
 -- the pieces of an operation are its code
 pub operation_appended : (f : Setting) (mode : Mode) (mask to : ℕ) (e : Tree) (op : Op) (l r one left again right : Tree)

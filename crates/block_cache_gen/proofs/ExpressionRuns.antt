@@ -16,7 +16,7 @@ use Rattle.src_tree.proofs.TreeHeights.{height-some}
 use Rattle.scalar_ranges.specs.Prelude.{AreWithin}
 use Rattle.block_cache_gen.specs.declared.frames.Mode.{Mode}
 use Rattle.block_cache_gen.specs.declared.indexes.Numbering.{Numbering}
-use Rattle.block_cache_gen.specs.Prelude.{Setting, HasHomes, home_of, words_a_block, start_of_home, register_for, further_slots, fixed_index, scalar_code, access_by, placed_code, read_by, index_operand, operand, operand_part, operand_register, operand_unless, left_operand, operation_code, steps_at, expr_code, is_in_place, numbering, copy_code, StandsFor, FitsHomes, access_of, accessed_by, accesses, word_number, block_in, slots_after, seen_of_all, LeavesWord}
+use Rattle.block_cache_gen.specs.Prelude.{Setting, HasHomes, home_of, words_a_block, start_of_home, register_for, further_slots, fixed_index, scalar_code, access_by, placed_code, read_by, index_operand, operand, operand_part, operand_register, operand_unless, left_operand, operation_code, steps_at, expr_code, is_in_place, numbering, copy_code, StandsFor, FitsHomes, access_of, accessed_by, accesses, word_number, block_in, slots_after, seen_of_all, LeavesWord, first_kept, room_of}
 use Rattle.gr_word.specs.declared.operations.Op.{Op}
 use Rattle.strength_reduction.specs.Prelude.{Step, numbered, words_after, code_of}
 use Rattle.step_code.proofs.StepRuns.{Leaves, runs-steps}
@@ -37,7 +37,7 @@ use Rattle.block_cache_gen.proofs.WordSlots.{single-slot}
 use Rattle.block_cache_gen.proofs.AccessRuns.{Accesses, runs-access, word-within}
 
 -- where one register was set, a word is left and nothing was accessed
-leaves-set : {f : Setting} {store : Store} {to : ℕ} {word : ℤ} {s t : State} → to < 19 → StandsFor f s store
+leaves-set : {f : Setting} {store : Store} {to : ℕ} {word : ℤ} {s t : State} → to < first_kept f → StandsFor f s store
     → Sets s to word t → LeavesWord f store [] to word s t
 leaves-set low stands sets = record {
   value = sets.value;
@@ -50,7 +50,8 @@ leaves-set low stands sets = record {
 module _ (o : Parts) (fits : IsInRange o) (f : Setting) (homes : HasHomes o f) (store : Store)
     (store_fits : FitsHomes f store) where
   -- a scalar that a register holds
-  runs-held : (x : List ℕ) (r : ℕ) → register_for f x ≡ Some r → (to : ℕ) → to < 19 → (s : State) → IsShaped o s
+  runs-held : (x : List ℕ) (r : ℕ) → register_for f x ≡ Some r → (to : ℕ) → to < first_kept f → (s : State)
+      → IsShaped o s
       → StandsFor f s store → StandsAt o s.place (copy_code Public to r)
       → RunsThrough o s (copy_code Public to r) [] (LeavesWord f store [] to (scalar store (variable_number f.decls x)) s)
   runs-held x r held to small s shaped stands at =
@@ -64,7 +65,7 @@ module _ (o : Parts) (fits : IsInRange o) (f : Setting) (homes : HasHomes o f) (
 
   -- a scalar that is read in its slot
   runs-loaded : (x : List ℕ) (label : Label) → context_of f.decls x ≡ Some (label, Scalar) → register_for f x ≡ None
-      → (to : ℕ) → to < 19 → (s : State) → IsShaped o s → StandsFor f s store
+      → (to : ℕ) → to < first_kept f → (s : State) → IsShaped o s → StandsFor f s store
       → StandsAt o s.place (Li to (pos (home_of f x).word) ∷ Ldw to (home_of f x).slot to ∷ [])
       → RunsThrough o s (Li to (pos (home_of f x).word) ∷ Ldw to (home_of f x).slot to ∷ []) []
       (LeavesWord f store [] to (scalar store (variable_number f.decls x)) s)
@@ -95,7 +96,8 @@ module _ (o : Parts) (fits : IsInRange o) (f : Setting) (homes : HasHomes o f) (
       }))
 
   -- a scalar
-  runs-scalar : (x : List ℕ) (label : Label) → context_of f.decls x ≡ Some (label, Scalar) → (to : ℕ) → to < 19
+  runs-scalar : (x : List ℕ) (label : Label) → context_of f.decls x ≡ Some (label, Scalar) → (to : ℕ)
+      → to < first_kept f
       → (s : State) → IsShaped o s → StandsFor f s store → (found : Option ℕ) → register_for f x ≡ found
       → StandsAt o s.place (scalar_code found (home_of f x) to)
       → RunsThrough o s (scalar_code found (home_of f x) to) []
@@ -123,7 +125,7 @@ module _ (o : Parts) (fits : IsInRange o) (f : Setting) (homes : HasHomes o f) (
 
   -- an element, where what the code of its index does is known
   runs-element : (mode : Mode) (x : List ℕ) (i : Tree) (label : Label) → context_of f.decls x ≡ Some (label, Array)
-      → (to from : ℕ) (index : List Instr) → to + 3 < 19 → from ≢ to + 1 → (s : State) → IsShaped o s
+      → (to from : ℕ) (index : List Instr) → to + 3 < first_kept f → from ≢ to + 1 → (s : State) → IsShaped o s
       → StandsFor f s store → RunsValue o f store mode to from i index s
       → (way : Numbering) (resident : Bool)
       → FitsNumbering way (home_of f x) to from (evaluated f.decls store i) → (home_of f x).resident ≡ resident
@@ -157,7 +159,7 @@ module _ (o : Parts) (fits : IsInRange o) (f : Setting) (homes : HasHomes o f) (
       (runs-placed o fits f homes store store_fits x label Array known resident mode to from i found s shaped stands
       (omega (arith, small)) other run way own (fixed_index h i) refl)
       (λ t shape placed at'.
-      runs-weaker t load [] [] (Reads to value t) Done
+      runs-weaker t load [] [] (Reads f to value t) Done
       (runs-read_by o fits f homes store store_fits x label Array known resident (array-free f homes.held x label known) n
       (resident-within o fits f homes store store_fits x label Array known resident index) t shape placed.stands to small
       placed.value (fixed_index h i)
@@ -208,7 +210,8 @@ module _ (o : Parts) (fits : IsInRange o) (f : Setting) (homes : HasHomes o f) (
       (λ t shape done. done)
 
   -- an operation on two operands, where what the code of each does is known
-  runs-operation : (mode : Mode) (op : Op) (left right : Tree) (to ra rb : ℕ) (first second : List Instr) → to + 2 < 19
+  runs-operation : (mode : Mode) (op : Op) (left right : Tree) (to ra rb : ℕ) (first second : List Instr)
+      → to + 2 < first_kept f
       → (s : State) → IsShaped o s → StandsFor f s store
       → RunsValue o f store mode to ra left first s
       → ((t : State) → IsShaped o t → StandsFor f t store → RunsValue o f store mode (to + 1) rb right second t)
@@ -267,7 +270,7 @@ module _ (o : Parts) (fits : IsInRange o) (f : Setting) (homes : HasHomes o f) (
 
   -- an operation that steps replace
   runs-stepped : (mode : Mode) (op : Op) (left right : Tree) (steps : List Step) → StepsOf op right steps → (to : ℕ)
-      → to + 2 < 19 → (s : State) → IsShaped o s → StandsFor f s store
+      → to + 2 < first_kept f → (s : State) → IsShaped o s → StandsFor f s store
       → (StandsAt o s.place (expr_code f mode to left)
       → RunsThrough o s (expr_code f mode to left) (seen_of_all mode s.banks s.slots (accesses f store left))
       (LeavesWord f store (accesses f store left) to (evaluated f.decls store left) s))
@@ -314,7 +317,8 @@ module _ (o : Parts) (fits : IsInRange o) (f : Setting) (homes : HasHomes o f) (
       (LeavesWord f store l to result s)) same runs)
 
   -- an operation, whose left side is in a register of its own if steps replace the operation
-  runs-either : (mode : Mode) (op : Op) (left right : Tree) (to : ℕ) → to + 2 < 19 → (s : State) → IsShaped o s
+  runs-either : (mode : Mode) (op : Op) (left right : Tree) (to : ℕ) → to + 2 < first_kept f → (s : State)
+      → IsShaped o s
       → StandsFor f s store → (q : Option ℕ) → IsOperandOf f left q
       → RunsExpr o f store mode to left s
       → ((t : State) → IsShaped o t → StandsFor f t store → RunsExpr o f store mode (to + 1) right t)
@@ -351,7 +355,8 @@ module _ (o : Parts) (fits : IsInRange o) (f : Setting) (homes : HasHomes o f) (
       at
 
   -- an expression
-  pub runs-expression : AreWithin f.ranges store → (mode : Mode) (e : Tree) → TypedTree (context_of f.decls) e → (to : ℕ) → to + height_of e ≤ 17
+  pub runs-expression : AreWithin f.ranges store → (mode : Mode) (e : Tree) → TypedTree (context_of f.decls) e
+      → (to : ℕ) → to + height_of e ≤ room_of f
       → (s : State) → IsShaped o s → StandsFor f s store → StandsAt o s.place (expr_code f mode to e)
       → RunsThrough o s (expr_code f mode to e) (seen_of_all mode s.banks s.slots (accesses f store e))
       (LeavesWord f store (accesses f store e) to (evaluated f.decls store e) s)
@@ -365,7 +370,7 @@ module _ (o : Parts) (fits : IsInRange o) (f : Setting) (homes : HasHomes o f) (
   runs-expression within mode (Element x i) typed to room s shaped stands at =
       let way = numbering f mode (home_of f x) i in
       let q = index_operand f way (home_of f x) i in
-      let low : to + 3 < 19 = omega (arith, height-some i) in
+      let low : to + 3 < first_kept f = omega (arith, height-some i) in
       let apart = operand-apart f i q (operand-unless f i (is_in_place (home_of f x) way)) to in
       runs-element mode x i typed.0.0 typed.0.1 to (operand_register q to) (operand_part q (expr_code f mode to i)) low
       (apart.apart (to + 1) (omega arith) (omega arith)) s shaped stands

@@ -10,7 +10,7 @@ use Rattle.src_tree.specs.Prelude.{Context, context_of, height_of, LowStatement,
 use Rattle.block_cache_gen.specs.declared.frames.CodeBuf.{CodeBuf}
 use Rattle.block_cache_gen.specs.declared.frames.Mode.{Mode}
 use Rattle.block_cache_gen.specs.declared.frames.Mode.TheVariants.{Public, Real, Mirrored}
-use Rattle.block_cache_gen.specs.Prelude.{IsAssignment, Setting, expr_code, guard_code, set_code, Appended, notes_in, EmitsExpr, EmitsGuard, EmitsSet, Extends, base_mask, expr_notes, guard_notes, set_notes, HasWords, TestHasWords, SetHasWords}
+use Rattle.block_cache_gen.specs.Prelude.{IsAssignment, Setting, expr_code, guard_code, set_code, Appended, notes_in, EmitsExpr, EmitsGuard, EmitsSet, Extends, base_mask, expr_notes, guard_notes, set_notes, HasWords, TestHasWords, SetHasWords, room_of}
 use Rattle.block_cache_gen.proofs.Emitting.{appended_length}
 use Rattle.block_cache_gen.proofs.RangesOfCode.{CodeFits, HomesFit, code-all, expression-fits, guard-fits, set_variable-fits, set_element-fits}
 use Rattle.block_cache_gen.proofs.RangesOfNotes.{PinsLow, NotesRise, base_mask-below, rise-fits, expression-rises, guard-rises, set-rises, expression-count, guard-count, set_variable-count, set_element-count}
@@ -75,7 +75,7 @@ extends f banks mode weight code noted a b some pins x few few_notes fits rise r
 
 -- so does the code of an expression
 pub expr_extends : (f : Setting) (banks : ℕ) (mode : Mode) (to : ℕ) (e : Tree) (a b : CodeBuf)
-    → 2 ≤ banks → HomesFit banks f → TypedTree (context_of f.decls) e → to + height_of e ≤ 17 → HasWords e
+    → 2 ≤ banks → HomesFit banks f → TypedTree (context_of f.decls) e → to + height_of e ≤ room_of f → HasWords e
     → length a.code.items + 120 * tree_weight e ≤ most_instructions → EmitsExpr f mode (base_mask f) to e a b
     → Extends banks mode (tree_weight e) a b
 expr_extends f banks mode to e a b some homes typed low words room x =
@@ -89,7 +89,8 @@ expr_extends f banks mode to e a b some homes typed low words room x =
 -- that of a guard
 pub guard_extends : (f : Setting) (banks : ℕ) (mode : Mode) (to : ℕ) (t : Test) (a b : CodeBuf)
     → 2 ≤ banks → HomesFit banks f
-    → TypedTest (context_of f.decls) t → to + height_of t.left ≤ 17 → to + 1 + height_of t.right ≤ 17 → TestHasWords t
+    → TypedTest (context_of f.decls) t → to + height_of t.left ≤ room_of f → to + 1 + height_of t.right ≤ room_of f
+    → TestHasWords t
     → length a.code.items + 120 * test_weight t ≤ most_instructions → EmitsGuard f mode to t a b
     → Extends banks mode (test_weight t) a b
 guard_extends f banks mode to t a b some homes typed low lower words room x =

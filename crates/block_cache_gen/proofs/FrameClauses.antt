@@ -6,11 +6,12 @@ use Rattle.lt_isa.specs.declared.instructions.Instr.{Instr}
 use Rattle.lt_isa.specs.declared.symbols.Note.{Note}
 use Rattle.src_tree.specs.Prelude.{context_of, height_of, LowStatement, Tree, Test, Statement, SetVariable, SetElement, Choice, Loop, Source, source_of, TypedTree, TypedTest, TypedStatement, DeclaredOnce}
 use Rattle.held_registers.specs.Prelude.{IsSoundHeld}
+use Rattle.held_registers.proofs.Sound.{nothing-sound}
 use Rattle.block_cache_gen.specs.declared.frames.CodeBuf.{CodeBuf}
 use Rattle.block_cache_gen.specs.declared.frames.Frame.{Frame}
 use Rattle.block_cache_gen.specs.declared.frames.Mode.{Mode}
 use Rattle.block_cache_gen.specs.declared.frames.Mode.TheVariants.{Public, Real, Mirrored}
-use Rattle.block_cache_gen.specs.Prelude.{IsAssignment, code_behind, notes_behind, may_skip_loads, expr_code, guard_code, set_code, IsStatementFor, Appended, notes_in, EmitsExpr, EmitsGuard, EmitsSet, Setting, IsCodeOfSet, base_mask, expr_notes, guard_notes, set_notes, IsPassedAsExpr, IsPassedAsTest, IsPassedAsSet, HasPublicIndexes, TestHasPublicIndexes, SetHasPublicIndexes, Evaluates, EvaluatesTest, Performs, IsWalkedAsExpr, IsWalkedAsTest, IsWalkedAsSet, IsFrame, setting_of, stored_words, written_words, set_stores, mode_writes, AreTwins, HasTwin, other_mode}
+use Rattle.block_cache_gen.specs.Prelude.{IsAssignment, code_behind, notes_behind, may_skip_loads, expr_code, guard_code, set_code, IsStatementFor, Appended, notes_in, EmitsExpr, EmitsGuard, EmitsSet, Setting, IsCodeOfSet, base_mask, expr_notes, guard_notes, set_notes, IsPassedAsExpr, IsPassedAsTest, IsPassedAsSet, HasPublicIndexes, TestHasPublicIndexes, SetHasPublicIndexes, Evaluates, EvaluatesTest, Performs, IsWalkedAsExpr, IsWalkedAsTest, IsWalkedAsSet, IsFrame, setting_of, stored_words, written_words, set_stores, mode_writes, AreTwins, HasTwin, other_mode, room_of}
 use Rattle.block_cache_gen.proofs.WrittenWords.{set-writes}
 use Rattle.block_cache_gen.proofs.FrameIndexes.{frame_public, set_of_statement}
 use Rattle.src_tree.proofs.ProgramStatements.{statement_typed, statement_low}
@@ -47,7 +48,7 @@ other_secret Mirrored secret = refl
 
 -- an expression
 module _ (f : Setting) (once : DeclaredOnce f.decls) (to : ℕ) (e : Tree) (typed : TypedTree (context_of f.decls) e)
-    (public : HasPublicIndexes f e) (low : to + height_of e ≤ 17) where
+    (public : HasPublicIndexes f e) (low : to + height_of e ≤ room_of f) where
   expr-passed : (place : ℕ)
       → IsPassedAsExpr f to e place (expr_code f Public to e) (expr_notes f (base_mask f) to place e)
   expr-passed place o comes holds homes stands here carries =
@@ -70,7 +71,7 @@ ExprPromises f mode to e n code notes =
 -- what was appended for an expression does what is promised
 pub frame-expr_promises : (f : Frame) (s : Setting) (mode : Mode) (to : ℕ) (e : Tree) (a b : CodeBuf) → IsFrame f
     → s ≡ setting_of f → TypedTree (context_of f.program.now.decls.items) e → HasPublicIndexes (setting_of f) e
-    → to + height_of e ≤ 17 → EmitsExpr s mode (base_mask s) to e a b
+    → to + height_of e ≤ room_of (setting_of f) → EmitsExpr s mode (base_mask s) to e a b
     → ExprPromises (setting_of f) mode to e (length a.code.items) (code_behind a b) (notes_behind a b)
 frame-expr_promises f s mode to e a b is same typed public low x =
     let g = setting_of f in
@@ -98,7 +99,8 @@ TestPromises f mode to t place code notes =
 -- and what was appended for a guard
 pub frame-test_promises : (f : Frame) (s : Setting) (mode : Mode) (to : ℕ) (t : Test) (a b : CodeBuf) → IsFrame f
     → s ≡ setting_of f → TypedTest (context_of f.program.now.decls.items) t → TestHasPublicIndexes (setting_of f) t
-    → to + height_of t.left ≤ 17 → to + 1 + height_of t.right ≤ 17 → EmitsGuard s mode to t a b
+    → to + height_of t.left ≤ room_of (setting_of f) → to + 1 + height_of t.right ≤ room_of (setting_of f)
+    → EmitsGuard s mode to t a b
     → TestPromises (setting_of f) mode to t (length a.code.items) (code_behind a b) (notes_behind a b)
 frame-test_promises f s mode to t a b is same typed public low lower x =
     let g = setting_of f in
@@ -177,6 +179,7 @@ frame-set_promises f s mode t a b is same assigns stands x =
     let p = source_of f.program.now in
     let typed = statement_typed p stands.code t is.typed stands.stands in
     let low = statement_low p stands.code t is.within stands.stands in
+    let held = nothing-sound p.decls in
     let public = set_of_statement g t (frame_public f is stands.code t stands.stands) in
     let y : EmitsSet g mode t a b = let P : Setting → Type 0 = λ u. EmitsSet u mode t a b in subst P same x in
     let inside : ¬ (mode ≡ Public) → TypedStatement (context_of g.decls) label.Secret t = (λ secret.
@@ -191,11 +194,11 @@ frame-set_promises f s mode t a b is same assigns stands x =
           subst P (sym public_mode) (set-passed g is.typed.once stands.code t assigns typed public low place);
       walked = λ secret. set-walked g mode (secret_mode mode secret) t (inside secret) public low;
       stores = set-stores g mode t assigns;
-      writes = set-writes g is.held mode t assigns low;
-      instructions = own-code g is.held mode t;
+      writes = set-writes g held mode t assigns low;
+      instructions = own-code g held mode t;
       twin = λ secret. record {
         twin = set_code g (other_mode mode) t;
-        same = are-twins g is.held mode t;
+        same = are-twins g held mode t;
         performs = assignment-performs g (other_mode mode) stands.code t assigns typed low;
         walked = set-walked g (other_mode mode) (other_secret mode secret) t (inside secret) public low;
       };

@@ -6,15 +6,16 @@ use Rattle.stretches.proofs.RunningThrough.{runs-append, runs-weaker}
 use Rattle.src_tree.specs.Prelude.{context_of, height_of, Store, evaluated, Test, TypedTest}
 use Rattle.scalar_ranges.specs.Prelude.{AreWithin}
 use Rattle.block_cache_gen.specs.declared.frames.Mode.{Mode}
-use Rattle.block_cache_gen.specs.Prelude.{Setting, HasHomes, expr_code, guard_code, StandsFor, FitsHomes, accesses, test_accesses, slots_after, seen_of_all, LeavesWord, LeavesBoth}
+use Rattle.block_cache_gen.specs.Prelude.{Setting, HasHomes, expr_code, guard_code, StandsFor, FitsHomes, accesses, test_accesses, slots_after, seen_of_all, LeavesWord, LeavesBoth, room_of}
 use Rattle.block_cache_gen.proofs.AccessLaws.{slots_after-append, seen_of_all-append}
 use Rattle.block_cache_gen.proofs.ExpressionRuns.{runs-expression}
 
 module _ (o : Parts) (fits : IsInRange o) (f : Setting) (homes : HasHomes o f) (store : Store)
     (store_fits : FitsHomes f store) where
   -- the code of a guard leaves its two sides in two registers
-  pub runs-guard : AreWithin f.ranges store → (mode : Mode) (t : Test) → TypedTest (context_of f.decls) t → (to : ℕ) → to + height_of t.left ≤ 17
-      → (to + 1) + height_of t.right ≤ 17 → (s : State) → IsShaped o s → StandsFor f s store
+  pub runs-guard : AreWithin f.ranges store → (mode : Mode) (t : Test) → TypedTest (context_of f.decls) t
+      → (to : ℕ) → to + height_of t.left ≤ room_of f
+      → (to + 1) + height_of t.right ≤ room_of f → (s : State) → IsShaped o s → StandsFor f s store
       → StandsAt o s.place (guard_code f mode to t)
       → RunsThrough o s (guard_code f mode to t) (seen_of_all mode s.banks s.slots (test_accesses f store t))
       (LeavesBoth f store (test_accesses f store t) to (evaluated f.decls store t.left)

@@ -12,7 +12,7 @@ use Rattle.src_tree.specs.Prelude.{context_of, label_and_shape, variable_number}
 use Rattle.held_registers.specs.declared.registers.Held.TheVariants.{SecretZero, Number, Scalar}
 use Rattle.held_registers.specs.Prelude.{held_at, secret_zero, public_zero, IsSoundHeld}
 use Rattle.held_registers.proofs.Found.{held-high, scalar-held}
-use Rattle.block_cache_gen.specs.Prelude.{Held, Setting, held_label, label_by, register_for, zero_of}
+use Rattle.block_cache_gen.specs.Prelude.{Held, Setting, held_label, label_by, register_for, zero_of, first_kept}
 
 -- the label of a declared name, by its number
 label_by_name : (same : Bool) (d : Decl) (ds : List Decl) (n : ℕ) (kind : Label × Shape)
@@ -42,12 +42,19 @@ held_within held r h e = by (nat_lt r 19) e
     by true e = absurd (let f : ◌≡◌ {A = Option Held} None (Some h) = e in cc)
     by false e = slice_get_within held (r - 19) h e
 
-pub label-high : (f : Setting) (r : ℕ) (l : Label) → held_label f r ≡ Some l → 19 ≤ r
+-- if one holds something, expressions use those below 19
+pub held-above : (f : Setting) (r : ℕ) (h : Held) → held_at f.held r ≡ Some h → first_kept f ≤ r
+held-above f r h is =
+    let within = held_within f.held r h is in
+    let high = held-high f.held r h is in
+    omega (arith, within, high)
+
+pub label-high : (f : Setting) (r : ℕ) (l : Label) → held_label f r ≡ Some l → first_kept f ≤ r
 label-high f r l e = by (held_at f.held r) refl e
   where
-    by : (q : Option Held) → held_at f.held r ≡ q → label_by f.decls q ≡ Some l → 19 ≤ r
+    by : (q : Option Held) → held_at f.held r ≡ q → label_by f.decls q ≡ Some l → first_kept f ≤ r
     by None is e = absurd (let f : ◌≡◌ {A = Option Label} None (Some l) = e in cc)
-    by (Some h) is e = held-high f.held r h is
+    by (Some h) is e = held-above f r h is
 
 pub one-label : (q : Option Label) (a b : Label) → q ≡ Some a → q ≡ Some b → a ≡ b
 one-label q a b first second = let f : ◌≡◌ {A = Option Label} (Some a) (Some b) = sym first ∙ second in cc
@@ -88,7 +95,7 @@ module _ (f : Setting) (sound : IsSoundHeld f.decls f.held) where
     pub register-label : held_label f r ≡ Some l
     register-label = ap (label_by f.decls) register_holds ∙ label_by_number f.decls x (l, shape) declared
 
-    pub register-high : 19 ≤ r
+    pub register-high : first_kept f ≤ r
     register-high = label-high f r l register-label
 
     pub register-low : r < 32

@@ -4,9 +4,10 @@ use Rattle.std.proofs.Common.{◌≡◌, ℕ, ◌<◌, ◌≤◌, Bool, true, fa
 use Rattle.lt_isa.specs.Prelude.{State, register}
 use Rattle.src_tree.specs.Prelude.{Store, variable_number, evaluated, Tree, Number, Variable, Element, Operation}
 use Rattle.held_registers.specs.Prelude.{held_at, word_held, IsSoundHeld}
-use Rattle.held_registers.proofs.Found.{held-high, scalar-held, number-held}
+use Rattle.held_registers.proofs.Found.{scalar-held, number-held}
 use Rattle.word_selection.specs.Prelude.{IsOutside}
-use Rattle.block_cache_gen.specs.Prelude.{Held, Setting, operand, operand_part, operand_register, operand_unless, StandsFor, accesses}
+use Rattle.block_cache_gen.specs.Prelude.{Held, Setting, operand, operand_part, operand_register, operand_unless, StandsFor, accesses, first_kept}
+use Rattle.block_cache_gen.proofs.HeldLabels.{held-above}
 use Rattle.block_cache_gen.proofs.HeldScalars.{held-inside}
 use Rattle.held_registers.specs.declared.registers.Held.TheVariants as thing
 
@@ -35,15 +36,15 @@ operand-unless f e true r is = absurd (let g : ◌≡◌ {A = Option ℕ} None (
 operand-unless f e false r is = is
 
 -- the register of an operand is one that no expression uses, or the one of its code
-pub record IsApart (to from : ℕ) : Type 0 where
-  pub apart : (r : ℕ) → to < r → r < 19 → ¬ (from ≡ r)
+pub record IsApart (f : Setting) (to from : ℕ) : Type 0 where
+  pub apart : (r : ℕ) → to < r → r < first_kept f → ¬ (from ≡ r)
 
 pub operand-apart : (f : Setting) (e : Tree) (q : Option ℕ) → IsOperandOf f e q → (to : ℕ)
-    → IsApart to (operand_register q to)
+    → IsApart f to (operand_register q to)
 operand-apart f e None is to = record { apart = λ r above low same. absurd (omega (arith, above, same)) }
 operand-apart f e (Some q) is to =
     let held = operand-held f e q (is q refl) in
-    let high = held-high f.held q held.thing held.at in
+    let high = held-above f q held.thing held.at in
     record { apart = λ r above low same. absurd (omega (arith, low, same, high)) }
 
 -- a value that no register holds is in register 0, and one that a register holds in a high one
@@ -52,7 +53,7 @@ pub operand-outside : (f : Setting) (e : Tree) (q : Option ℕ) → IsOperandOf 
 operand-outside f e None is = inl (omega arith)
 operand-outside f e (Some q) is =
     let held = operand-held f e q (is q refl) in
-    let high = held-high f.held q held.thing held.at in
+    let high = held-above f q held.thing held.at in
     inr (omega (arith, high))
 
 -- it is one of the machine's

@@ -22,7 +22,7 @@ use Rattle.scalar_ranges.proofs.Values.{within-below}
 use Rattle.block_cache_gen.specs.declared.frames.Mode.{Mode}
 use Rattle.block_cache_gen.specs.declared.indexes.Numbering.{Numbering}
 use Rattle.block_cache_gen.specs.declared.indexes.Numbering.TheVariants.{Compared, Reduced, Within}
-use Rattle.block_cache_gen.specs.Prelude.{Home, Setting, StandsFor, numbered_register, is_power, is_masked, is_cached, is_in_place, is_within_home, index_operand, numbering, numbering_by, compares, operand, operand_unless, operand_part, operand_register, held_number, applied_code, reducing, reducer, reduced_code, least_word, compared_code, numbered_code, shift_code, fixed_code, fixed_word}
+use Rattle.block_cache_gen.specs.Prelude.{Home, Setting, StandsFor, numbered_register, is_power, is_masked, is_cached, is_in_place, is_within_home, index_operand, numbering, numbering_by, compares, operand, operand_unless, operand_part, operand_register, held_number, applied_code, reducing, reducer, reduced_code, least_word, compared_code, numbered_code, shift_code, fixed_code, fixed_word, first_kept}
 use Rattle.block_cache_gen.proofs.Stands.{stands-like}
 use Rattle.block_cache_gen.proofs.HomeFacts.{offset-none}
 use Rattle.block_cache_gen.proofs.NearIndexes.{near-index, own-remainder}
@@ -31,19 +31,19 @@ use Rattle.block_cache_gen.proofs.OperandRuns.{runs-nothing}
 use Rattle.held_registers.specs.declared.registers.Held.TheVariants as thing
 
 -- The number of a word is in register `to`, and that of its block in the next one; the registers below and those
--- from 19 on, the slots and the banks are as before.
-pub record Locates (to n a : ℕ) (s t : State) : Type 0 where
+-- that no expression uses, the slots and the banks are as before.
+pub record Locates (f : Setting) (to n a : ℕ) (s t : State) : Type 0 where
   pub word : register t to ≡ pos n
   pub block : register t (to + 1) ≡ pos a
-  pub keeps : Keeps to s t
+  pub keeps : Keeps f to s t
 
 -- only the word, in a register
-pub record Numbers (at to n : ℕ) (s t : State) : Type 0 where
+pub record Numbers (f : Setting) (at to n : ℕ) (s t : State) : Type 0 where
   pub word : register t at ≡ pos n
-  pub keeps : Keeps to s t
+  pub keeps : Keeps f to s t
 
-abbrev pub Reduces : (to n : ℕ) (s t : State) → Type 0
-Reduces to n s t = Numbers to to n s t
+abbrev pub Reduces : (f : Setting) (to n : ℕ) (s t : State) → Type 0
+Reduces f to n s t = Numbers f to to n s t
 
 -- What a numbering asks of an index and its register: unless the index is reduced, or the number of the array's first
 -- word is added to it, it is in register `to`; and it is below the length of its array if it is the number of the word.
@@ -88,9 +88,9 @@ fits-numbering f store within mode h i to = record {
 }
 
 -- the result of an operation is in register `to`
-pub record Computes (to : ℕ) (value : ℤ) (s t : State) : Type 0 where
+pub record Computes (f : Setting) (to : ℕ) (value : ℤ) (s t : State) : Type 0 where
   pub word : register t to ≡ value
-  pub keeps : Keeps to s t
+  pub keeps : Keeps f to s t
 
 -- the exponent of a power of two
 pub power-of : (n : ℕ) → is_power n ≡ true → (k : ℕ) × (k < 21) × (2 ^ k ≡ n)
@@ -109,15 +109,15 @@ power-of n is = found 0 21 is
 module _ (o : Parts) (fits : IsInRange o) (f : Setting) (store : Store) where
   -- an operation on a register and a number, by the register that holds the number
   pub runs-applied : (op : Op) (to from own : ℕ) (z left value : ℤ) (s : State) → IsShaped o s → StandsFor f s store
-      → register s from ≡ left → from ≢ own → to ≤ own → own < 19 → applied op left z ≡ value
+      → register s from ≡ left → from ≢ own → to ≤ own → own < first_kept f → applied op left z ≡ value
       → StandsAt o s.place (applied_code f op to from own z)
-      → RunsThrough o s (applied_code f op to from own z) [] (Computes to value s)
+      → RunsThrough o s (applied_code f op to from own z) [] (Computes f to value s)
   runs-applied op to from own z left value s shaped stands has other le low computes at = by (held_number f z) refl at
     where
       by : (q : Option ℕ) → held_number f z ≡ q
           → StandsAt o s.place (operand_part q (Li own z ∷ []) ++ Alu op to from (operand_register q own) ∷ [])
           → RunsThrough o s (operand_part q (Li own z ∷ []) ++ Alu op to from (operand_register q own) ∷ []) []
-          (Computes to value s)
+          (Computes f to value s)
       by None is at =
           runs-cons s (Li own z) (Alu op to from own ∷ []) [] [] (Sets s own z) _ at
           (sets-li o fits s shaped own z (omega arith))
@@ -131,8 +131,8 @@ module _ (o : Parts) (fits : IsInRange o) (f : Setting) (store : Store) where
           refl
           (λ u shape' sets'. record {
             word = sets'.value;
-            keeps = keeps-on (keeps-set to sets (omega arith) (omega arith))
-                (keeps-set to sets' (omega arith) (omega arith));
+            keeps = keeps-on (keeps-set f to sets (omega arith) (omega arith))
+                (keeps-set f to sets' (omega arith) (omega arith));
           }))
       by (Some r) is at =
           let number : register s r ≡ z = stands.held r (thing.Number z) (number-held f.held z r is) in
@@ -142,14 +142,14 @@ module _ (o : Parts) (fits : IsInRange o) (f : Setting) (store : Store) where
           (runs-one s (Alu op to from r) [] (Sets s to value) at
           (sets-alu o fits s shaped op to from r value (omega arith) result))
           refl
-          (λ u shape' sets. record { word = sets.value; keeps = keeps-set to sets (omega arith) (omega arith) })
+          (λ u shape' sets. record { word = sets.value; keeps = keeps-set f to sets (omega arith) (omega arith) })
 
   -- an index modulo the length, by an operation that reduces it
   runs-reducing : (op : Op) (by : ℤ) (h : Home) (to from : ℕ) (s : State) (index : ℤ)
-      → IsShaped o s → register s from ≡ index → from ≢ to + 1 → to + 2 < 19
+      → IsShaped o s → register s from ≡ index → from ≢ to + 1 → to + 2 < first_kept f
       → applied op index by ≡ pos (unsigned_of index % h.length)
       → StandsAt o s.place (Li (to + 1) by ∷ Alu op to from (to + 1) ∷ []) → RunsThrough o s
-      (Li (to + 1) by ∷ Alu op to from (to + 1) ∷ []) [] (Reduces to (unsigned_of index % h.length) s)
+      (Li (to + 1) by ∷ Alu op to from (to + 1) ∷ []) [] (Reduces f to (unsigned_of index % h.length) s)
   runs-reducing op by h to from s index shaped has other below reduces at =
       let word = unsigned_of index % h.length in
       runs-cons s (Li (to + 1) by) (Alu op to from (to + 1) ∷ []) [] [] (Sets s (to + 1) by) _ at
@@ -164,7 +164,7 @@ module _ (o : Parts) (fits : IsInRange o) (f : Setting) (store : Store) where
       refl
       (λ u shape' sets'. record {
         word = sets'.value;
-        keeps = keeps-on (keeps-set to sets (omega arith) (omega arith)) (keeps-set to sets' (omega arith) (omega arith));
+        keeps = keeps-on (keeps-set f to sets (omega arith) (omega arith)) (keeps-set f to sets' (omega arith) (omega arith));
       }))
 
   masks : (h : Home) (index : ℤ) → is_power h.length ≡ true
@@ -186,12 +186,12 @@ module _ (o : Parts) (fits : IsInRange o) (f : Setting) (store : Store) where
       by false is = remu_small index h.length least (omega arith)
 
   pub runs-reduced : (h : Home) (to from : ℕ) (s : State) (index : ℤ) → IsShaped o s → StandsFor f s store
-      → register s from ≡ index → from ≢ to + 1 → to + 2 < 19
+      → register s from ≡ index → from ≢ to + 1 → to + 2 < first_kept f
       → 1 ≤ h.length → h.length ≤ 1048576 → StandsAt o s.place (reduced_code f h to from)
-      → RunsThrough o s (reduced_code f h to from) [] (Reduces to (unsigned_of index % h.length) s)
+      → RunsThrough o s (reduced_code f h to from) [] (Reduces f to (unsigned_of index % h.length) s)
   runs-reduced h to from s index shaped stands has other below least most at =
       let word = pos (unsigned_of index % h.length) in
-      runs-weaker s (reduced_code f h to from) [] [] (Computes to word s) (Reduces to (unsigned_of index % h.length) s)
+      runs-weaker s (reduced_code f h to from) [] [] (Computes f to word s) (Reduces f to (unsigned_of index % h.length) s)
       (runs-applied (reducing h) to from (to + 1) (reducer h) index word s shaped stands has other (omega arith)
       (omega arith) (reduces-by h index least most) at)
       refl
@@ -199,19 +199,19 @@ module _ (o : Parts) (fits : IsInRange o) (f : Setting) (store : Store) where
 
   -- The branch over the remainder is taken if the index is below the length, and then the index is the number of the
   -- word.
-  runs-branch : (h : Home) (to : ℕ) (s t : State) (index : ℤ) → IsShaped o t → register t to ≡ index → Keeps to s t
-      → to + 2 < 19 → 1 ≤ h.length → h.length ≤ 1048576
+  runs-branch : (h : Home) (to : ℕ) (s t : State) (index : ℤ) → IsShaped o t → register t to ≡ index → Keeps f to s t
+      → to + 2 < first_kept f → 1 ≤ h.length → h.length ≤ 1048576
       → (near : Bool) → compared Lt (register t (to + 1)) (register t (to + 2)) ≡ near
       → (near ≡ true → pos (unsigned_of index % h.length) ≡ index)
       → StandsAt o t.place
       (Br Lt (to + 1) (to + 2) (pos 3) ∷ Li (to + 1) (pos h.length) ∷ Alu Remu to to (to + 1) ∷ [])
       → RunsThrough o t
       (Br Lt (to + 1) (to + 2) (pos 3) ∷ Li (to + 1) (pos h.length) ∷ Alu Remu to to (to + 1) ∷ []) []
-      (Reduces to (unsigned_of index % h.length) s)
+      (Reduces f to (unsigned_of index % h.length) s)
   runs-branch h to s t index shaped has keeps below least most true is itself at =
       let branch = Br Lt (to + 1) (to + 2) (pos 3) in
       let rest = Li (to + 1) (pos h.length) ∷ Alu Remu to to (to + 1) ∷ [] in
-      let Done : State → Type 0 = Reduces to (unsigned_of index % h.length) s in
+      let Done : State → Type 0 = Reduces f to (unsigned_of index % h.length) s in
       comes-weaker [] (t.place + length (branch ∷ rest)) (greatest_costs o (branch ∷ rest)) Done
       (comes-br_taken o fits t shaped Lt (to + 1) (to + 2) (pos 3) Done (standing-head branch rest at) is
       (record {
@@ -223,13 +223,13 @@ module _ (o : Parts) (fits : IsInRange o) (f : Setting) (store : Store) where
       let branch = Br Lt (to + 1) (to + 2) (pos 3) in
       let rest = Li (to + 1) (pos h.length) ∷ Alu Remu to to (to + 1) ∷ [] in
       let word = unsigned_of index % h.length in
-      runs-cons t branch rest [] [] (Keeps (to + 1) t) (Reduces to word s) at
-      (λ stands. comes-br_on o fits t shaped Lt (to + 1) (to + 2) (pos 3) (Keeps (to + 1) t) stands is
+      runs-cons t branch rest [] [] (Keeps f (to + 1) t) (Reduces f to word s) at
+      (λ stands. comes-br_on o fits t shaped Lt (to + 1) (to + 2) (pos 3) (Keeps f (to + 1) t) stands is
       (record { below = λ r under. refl; above = λ r over. refl; slots = refl; banks = refl }))
       (λ u shape on at'.
-      let same : Keeps to t u =
+      let same : Keeps f to t u =
       record { below = λ r under. on.below r (omega arith); above = on.above; slots = on.slots; banks = on.banks } in
-      runs-weaker u rest [] [] (Reduces to word u) (Reduces to word s)
+      runs-weaker u rest [] [] (Reduces f to word u) (Reduces f to word s)
       (runs-reducing Remu (pos h.length) h to to u index shape (on.below to (omega arith) ∙ has)
       (λ same'. absurd (omega arith)) below
       (remu_small index h.length least (omega arith)) at')
@@ -240,16 +240,17 @@ module _ (o : Parts) (fits : IsInRange o) (f : Setting) (store : Store) where
       }))
 
   -- an index is compared with the length first
-  runs-compared : (h : Home) (to : ℕ) (s : State) (index : ℤ) → IsShaped o s → register s to ≡ index → to + 2 < 19
+  runs-compared : (h : Home) (to : ℕ) (s : State) (index : ℤ) → IsShaped o s → register s to ≡ index
+      → to + 2 < first_kept f
       → 1 ≤ h.length → h.length ≤ 1048576 → StandsAt o s.place (compared_code h to)
-      → RunsThrough o s (compared_code h to) [] (Reduces to (unsigned_of index % h.length) s)
+      → RunsThrough o s (compared_code h to) [] (Reduces f to (unsigned_of index % h.length) s)
   runs-compared h to s index shaped has below least most at =
       let bound = least_word +ℤ pos h.length in
       let sum = applied Add least_word index in
       let add = Alu Add (to + 1) (to + 1) to in
       let rest = Br Lt (to + 1) (to + 2) (pos 3) ∷ Li (to + 1) (pos h.length) ∷ Alu Remu to to (to + 1) ∷ [] in
       let word : IsWord index = subst IsWord has (IsWord-register o s shaped to) in
-      let Done : State → Type 0 = Reduces to (unsigned_of index % h.length) s in
+      let Done : State → Type 0 = Reduces f to (unsigned_of index % h.length) s in
       runs-cons s (Li (to + 1) least_word) (add ∷ Li (to + 2) bound ∷ rest) [] [] (Sets s (to + 1) least_word) Done at
       (sets-li o fits s shaped (to + 1) least_word (omega arith))
       (λ t1 shape1 sets1 at1.
@@ -268,17 +269,17 @@ module _ (o : Parts) (fits : IsInRange o) (f : Setting) (store : Store) where
       let test : compared Lt (register t3 (to + 1)) (register t3 (to + 2)) ≡ compared Lt sum bound =
       ap (λ a. compared Lt a (register t3 (to + 2))) left ∙ ap (compared Lt sum) sets3.value in
       runs-branch h to s t3 index shape3 has3
-      (keeps-on (keeps-set to sets1 (omega arith) (omega arith))
-      (keeps-on (keeps-set to sets2 (omega arith) (omega arith)) (keeps-set to sets3 (omega arith) (omega arith))))
+      (keeps-on (keeps-set f to sets1 (omega arith) (omega arith))
+      (keeps-on (keeps-set f to sets2 (omega arith) (omega arith)) (keeps-set f to sets3 (omega arith) (omega arith))))
       below least most (compared Lt sum bound) test (near-index index h.length word (omega arith)) at3)))
 
   -- an index that is the number of the word
   runs-within : (h : Home) (to from : ℕ) (s : State) (index : ℤ) → IsShaped o s → register s from ≡ index
       → h.length ≤ 1048576 → unsigned_of index < h.length
-      → RunsThrough o s [] [] (Numbers from to (unsigned_of index % h.length) s)
+      → RunsThrough o s [] [] (Numbers f from to (unsigned_of index % h.length) s)
   runs-within h to from s index shaped has most less =
       let word : IsWord index = subst IsWord has (IsWord-register o s shaped from) in
-      runs-nothing s (Numbers from to (unsigned_of index % h.length) s) shaped
+      runs-nothing s (Numbers f from to (unsigned_of index % h.length) s) shaped
       (record {
         word = has ∙ sym (own-remainder index h.length word (omega arith) less);
         keeps = record { below = λ r under. refl; above = λ r over. refl; slots = refl; banks = refl };
@@ -287,9 +288,9 @@ module _ (o : Parts) (fits : IsInRange o) (f : Setting) (store : Store) where
   -- by each numbering
   pub runs-numbered : (n : Numbering) (h : Home) (to from : ℕ) (s : State) (index : ℤ) → IsShaped o s
       → StandsFor f s store → register s from ≡ index → from ≢ to + 1 → FitsNumbering n h to from index
-      → to + 2 < 19 → 1 ≤ h.length → h.length ≤ 1048576 → StandsAt o s.place (numbered_code n f h to from)
+      → to + 2 < first_kept f → 1 ≤ h.length → h.length ≤ 1048576 → StandsAt o s.place (numbered_code n f h to from)
       → RunsThrough o s (numbered_code n f h to from) []
-      (Numbers (numbered_register n to from) to (unsigned_of index % h.length) s)
+      (Numbers f (numbered_register n to from) to (unsigned_of index % h.length) s)
   runs-numbered Compared h to from s index shaped stands has other by below least most at =
       runs-compared h to s index shaped (ap (register s) (sym (by.own refl)) ∙ has) below least most at
   runs-numbered Reduced h to from s index shaped stands has other by below least most at =
@@ -299,25 +300,25 @@ module _ (o : Parts) (fits : IsInRange o) (f : Setting) (store : Store) where
 
   -- the block, from the word
   pub runs-block : (h : Home) (to : ℕ) (s : State) (word : ℕ) → IsShaped o s → StandsFor f s store
-      → register s to ≡ pos word → to + 2 < 19 → f.profile.block_log < 64
+      → register s to ≡ pos word → to + 2 < first_kept f → f.profile.block_log < 64
       → h.block + word / 2 ^ f.profile.block_log < 2 ^ 63 → StandsAt o s.place (shift_code f h to)
-      → RunsThrough o s (shift_code f h to) [] (Locates to word (h.block + word / 2 ^ f.profile.block_log) s)
+      → RunsThrough o s (shift_code f h to) [] (Locates f to word (h.block + word / 2 ^ f.profile.block_log) s)
   runs-block h to s word shaped stands has below log small at =
       let part = word / 2 ^ f.profile.block_log in
       let base = pos f.profile.block_log in
       let shift = applied_code f Shr (to + 1) to (to + 1) base in
       let sum = applied_code f Add (to + 1) (to + 1) (to + 2) (pos h.block) in
-      let Done : State → Type 0 = Locates to word (h.block + part) s in
+      let Done : State → Type 0 = Locates f to word (h.block + part) s in
       let added : applied Add (pos part) (pos h.block) ≡ pos (h.block + part) =
       add_small part h.block (omega arith) ∙ ap pos (omega arith) in
-      runs-append s shift sum [] [] (Computes (to + 1) (pos part) s) Done at
+      runs-append s shift sum [] [] (Computes f (to + 1) (pos part) s) Done at
       (runs-applied Shr (to + 1) to (to + 1) base (pos word) (pos part) s shaped stands has
       (λ same. absurd (omega (arith, same))) (omega arith) (omega arith)
       (shr_small word f.profile.block_log log))
       (λ t shape first at'.
       let keeps = first.keeps in
       let stands' = stands-like f s t store keeps.slots keeps.banks keeps.above stands in
-      runs-weaker t sum [] [] (Computes (to + 1) (pos (h.block + part)) t) Done
+      runs-weaker t sum [] [] (Computes f (to + 1) (pos (h.block + part)) t) Done
       (runs-applied Add (to + 1) (to + 1) (to + 2) (pos h.block) (pos part) (pos (h.block + part)) t shape stands'
       first.word (λ same. absurd (omega (arith, same))) (omega arith) (omega arith) added at')
       refl
@@ -328,9 +329,9 @@ module _ (o : Parts) (fits : IsInRange o) (f : Setting) (store : Store) where
       }))
 
   -- both, where the index is a number
-  pub runs-fixed : (block_log : ℕ) (h : Home) (to : ℕ) (z : ℤ) (s : State) → IsShaped o s → to + 2 < 19
+  pub runs-fixed : (block_log : ℕ) (h : Home) (to : ℕ) (z : ℤ) (s : State) → IsShaped o s → to + 2 < first_kept f
       → StandsAt o s.place (fixed_code block_log h to z) → RunsThrough o s (fixed_code block_log h to z) []
-      (Locates to (fixed_word h z) (h.block + fixed_word h z / 2 ^ block_log) s)
+      (Locates f to (fixed_word h z) (h.block + fixed_word h z / 2 ^ block_log) s)
   runs-fixed block_log h to z s shaped below at =
       let word = fixed_word h z in
       let block = h.block + fixed_word h z / 2 ^ block_log in
@@ -344,5 +345,5 @@ module _ (o : Parts) (fits : IsInRange o) (f : Setting) (store : Store) where
       (λ u shape' sets'. record {
         word = sets'.others to (λ same. absurd (omega arith)) ∙ sets.value;
         block = sets'.value;
-        keeps = keeps-on (keeps-set to sets (omega arith) (omega arith)) (keeps-set to sets' (omega arith) (omega arith));
+        keeps = keeps-on (keeps-set f to sets (omega arith) (omega arith)) (keeps-set f to sets' (omega arith) (omega arith));
       }))

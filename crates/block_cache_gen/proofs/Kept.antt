@@ -1,18 +1,20 @@
--- What short code keeps that sets registers from some number on: the registers below it and those from 19 on, which hold
--- something for the whole run, the slots and the banks.
+-- What short code keeps that sets registers from some number on: the registers below it and those that no
+-- expression uses, the slots and the banks.
 use Rattle.std.proofs.Common.{◌≡◌, ℕ, ◌<◌, ◌≤◌, ℤ, ◌∙◌, arith}
 use Rattle.lt_isa.specs.Prelude.{State, register}
 use Rattle.stretches.specs.Prelude.{Sets}
+use Rattle.block_cache_gen.specs.Prelude.{Setting, first_kept}
 
-pub record Keeps (n : ℕ) (s t : State) : Type 0 where
+pub record Keeps (f : Setting) (n : ℕ) (s t : State) : Type 0 where
   pub below : (r : ℕ) → r < n → register t r ≡ register s r
-  pub above : (r : ℕ) → 19 ≤ r → register t r ≡ register s r
+  pub above : (r : ℕ) → first_kept f ≤ r → register t r ≡ register s r
   pub slots : t.slots ≡ s.slots
   pub banks : t.banks ≡ s.banks
 
 -- where one register was set
-pub keeps-set : (n : ℕ) {s t : State} {r : ℕ} {word : ℤ} → Sets s r word t → n ≤ r → r < 19 → Keeps n s t
-keeps-set n {r = r} sets from low = record {
+pub keeps-set : (f : Setting) (n : ℕ) {s t : State} {r : ℕ} {word : ℤ} → Sets s r word t → n ≤ r → r < first_kept f
+    → Keeps f n s t
+keeps-set f n {r = r} sets from low = record {
   below = λ q under. sets.others q (λ same. absurd (omega (arith, from, under, same)));
   above = λ q over. sets.others q (λ same. absurd (omega (arith, low, over, same)));
   slots = sets.slots;
@@ -20,7 +22,7 @@ keeps-set n {r = r} sets from low = record {
 }
 
 -- one after another
-pub keeps-on : {n : ℕ} {s t u : State} → Keeps n s t → Keeps n t u → Keeps n s u
+pub keeps-on : {f : Setting} {n : ℕ} {s t u : State} → Keeps f n s t → Keeps f n t u → Keeps f n s u
 keeps-on first second = record {
   below = λ r under. second.below r under ∙ first.below r under;
   above = λ r over. second.above r over ∙ first.above r over;
@@ -29,7 +31,7 @@ keeps-on first second = record {
 }
 
 -- fewer registers are kept too
-pub keeps-lower : (m n : ℕ) {s t : State} → m ≤ n → Keeps n s t → Keeps m s t
+pub keeps-lower : {f : Setting} (m n : ℕ) {s t : State} → m ≤ n → Keeps f n s t → Keeps f m s t
 keeps-lower m n le keeps = record {
   below = λ r under. keeps.below r (omega (arith, le, under));
   above = keeps.above;

@@ -5,13 +5,13 @@ use Rattle.src_tree.specs.Prelude.{context_of, label_of, Tree}
 use Rattle.trace_patterns.specs.Prelude.{Known, is_secret, is_marked}
 use Rattle.stretches.specs.Prelude.{Passes}
 use Rattle.block_cache_gen.specs.declared.frames.Mode.TheVariants.{Public}
-use Rattle.block_cache_gen.specs.Prelude.{Setting, expr_code, Carries, base_mask, HasLabel}
+use Rattle.block_cache_gen.specs.Prelude.{Setting, expr_code, Carries, base_mask, HasLabel, first_kept}
 
 -- Each register of expressions that a mask doesn't mark is below a register, and is public; of those that hold something
 -- for the whole run the mask says what notes between statements say.
 pub record LeavesPublic (f : Setting) (mask to : ℕ) (k : Known) : Type 0 where
-  pub lower : (r : ℕ) → r < 19 → is_marked mask r ≡ false → (r < to) × (is_secret k r ≡ false)
-  pub held : (r : ℕ) → 19 ≤ r → r < 32 → is_marked mask r ≡ is_marked (base_mask f) r
+  pub lower : (r : ℕ) → r < first_kept f → is_marked mask r ≡ false → (r < to) × (is_secret k r ≡ false)
+  pub held : (r : ℕ) → first_kept f ≤ r → r < 32 → is_marked mask r ≡ is_marked (base_mask f) r
 
 -- What is known after code that writes no register below `to`: the setting is carried; a register below is public if a
 -- mask doesn't mark it, and one that may hold a secret still may.

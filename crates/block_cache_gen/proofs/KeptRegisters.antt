@@ -6,7 +6,7 @@ use Rattle.trace_patterns.specs.Prelude.{Known, is_secret, bank_known, is_marked
 use Rattle.stretches.proofs.Passed.{secret-same, secret-other, bank-same, bank-other}
 use Rattle.gr_word.specs.declared.variables.Label.{Label}
 use Rattle.src_tree.specs.Prelude.{secret_label}
-use Rattle.block_cache_gen.specs.Prelude.{Setting, held_label, Carries}
+use Rattle.block_cache_gen.specs.Prelude.{Setting, held_label, Carries, first_kept}
 use Rattle.block_cache_gen.proofs.KeptBelow.{KeptBelow}
 use Rattle.block_cache_gen.proofs.HeldLabels.{label-high, one-label}
 
@@ -15,22 +15,22 @@ pub or_false : (b : Bool) → (b || false) ≡ b
 or_false true = refl
 or_false false = refl
 
--- registers below one stay as they were, and so do those from 19 on and all slots
-pub record SameBelow (to : ℕ) (k l : Known) : Type 0 where
+-- registers below one stay as they were, and so do those that no expression uses and all slots
+pub record SameBelow (f : Setting) (to : ℕ) (k l : Known) : Type 0 where
   pub sized : length l.secret ≡ length k.secret
   pub count : length l.banks ≡ length k.banks
   pub registers : (r : ℕ) → r < to → is_secret l r ≡ is_secret k r
-  pub above : (r : ℕ) → 19 ≤ r → is_secret l r ≡ is_secret k r
+  pub above : (r : ℕ) → first_kept f ≤ r → is_secret l r ≡ is_secret k r
   pub slots : (slot : ℕ) → slot ≢ 6 → bank_known l slot ≡ bank_known k slot
 
 -- what is as before is as before
-pub same-itself : (to : ℕ) (k : Known) → SameBelow to k k
-same-itself to k =
+pub same-itself : (f : Setting) (to : ℕ) (k : Known) → SameBelow f to k k
+same-itself f to k =
     record { sized = refl; count = refl; registers = λ r lt. refl; above = λ r le. refl; slots = λ slot lt. refl }
 
 -- twice as before
-pub same-then : (to : ℕ) (k l m : Known) → SameBelow to k l → SameBelow to l m → SameBelow to k m
-same-then to k l m first second = record {
+pub same-then : (f : Setting) (to : ℕ) (k l m : Known) → SameBelow f to k l → SameBelow f to l m → SameBelow f to k m
+same-then f to k l m first second = record {
   sized = second.sized ∙ first.sized;
   count = second.count ∙ first.count;
   registers = λ r lt. second.registers r lt ∙ first.registers r lt;
@@ -39,8 +39,8 @@ same-then to k l m first second = record {
 }
 
 -- fewer registers stay too
-pub same-lower : (low to : ℕ) (k l : Known) → low ≤ to → SameBelow to k l → SameBelow low k l
-same-lower low to k l le h = record {
+pub same-lower : (f : Setting) (low to : ℕ) (k l : Known) → low ≤ to → SameBelow f to k l → SameBelow f low k l
+same-lower f low to k l le h = record {
   sized = h.sized;
   count = h.count;
   registers = λ r lt. h.registers r (omega arith);
@@ -49,9 +49,10 @@ same-lower low to k l le h = record {
 }
 
 -- a higher register of expressions was set
-pub same-set : (to : ℕ) (k l : Known) (r : ℕ) (label : Bool) → to ≤ r → r < 19 → SameBelow to k l
-    → SameBelow to k (set_secret l r label)
-same-set to k l r label le low h = record {
+pub same-set : (f : Setting) (to : ℕ) (k l : Known) (r : ℕ) (label : Bool) → to ≤ r → r < first_kept f
+    → SameBelow f to k l
+    → SameBelow f to k (set_secret l r label)
+same-set f to k l r label le low h = record {
   sized = length-set l.secret r label ∙ h.sized;
   count = h.count;
   registers = λ s lt. secret-other l r s label (λ e. absurd (omega arith)) ∙ h.registers s lt;
@@ -60,9 +61,9 @@ same-set to k l r label le low h = record {
 }
 
 -- a slot that is bound to the bank to which it was, or none of those that a setting relies on
-pub same-bound : (to : ℕ) (k l : Known) (slot bank : ℕ) → SameBelow to k l → slot < length l.banks
-    → (slot ≢ 6 → bank_known l slot ≡ Some bank) → SameBelow to k (set_bank l slot bank)
-same-bound to k l slot bank h inside same = record {
+pub same-bound : (f : Setting) (to : ℕ) (k l : Known) (slot bank : ℕ) → SameBelow f to k l → slot < length l.banks
+    → (slot ≢ 6 → bank_known l slot ≡ Some bank) → SameBelow f to k (set_bank l slot bank)
+same-bound f to k l slot bank h inside same = record {
   sized = h.sized;
   count = length-set l.banks slot (Some bank) ∙ h.count;
   registers = h.registers;
@@ -79,7 +80,7 @@ same-bound to k l slot bank h inside same = record {
 }
 
 -- a setting is carried on
-pub carries-same : (f : Setting) (to : ℕ) (k l : Known) → Carries f k → SameBelow to k l → Carries f l
+pub carries-same : (f : Setting) (to : ℕ) (k l : Known) → Carries f k → SameBelow f to k l → Carries f l
 carries-same f to k l carries h = record {
   registers = h.sized ∙ carries.registers;
   slots = h.count ∙ carries.slots;
@@ -109,7 +110,7 @@ carries-copied f k r l label carries is inside labelled = record {
 }
 
 -- the lower registers stayed, and so what an expression keeps
-pub kept-same : (f : Setting) (mask to : ℕ) (k l m : Known) → KeptBelow f mask to k l → SameBelow to l m
+pub kept-same : (f : Setting) (mask to : ℕ) (k l m : Known) → KeptBelow f mask to k l → SameBelow f to l m
     → KeptBelow f mask to k m
 kept-same f mask to k l m kept h = record {
   carries = carries-same f to l m kept.carries h;

@@ -9,7 +9,7 @@ use Rattle.lt_isa.specs.Prelude.{Parts}
 use Rattle.src_tree.specs.Prelude.{DeclaredOnce}
 use Rattle.trace_patterns.specs.Prelude.{Known, is_secret, bank_known, is_marked, claimed_bank, marks, claims, FitsClaim, note_known}
 use Rattle.trace_patterns.proofs.Masks.{length-marks, get_or-marks, length-claims, get_or-claims}
-use Rattle.block_cache_gen.specs.Prelude.{Pin, Setting, HasHomes, home_of, pin_at, base_mask, unmarked, is_used, claimed_where_used, claim_by, slot_claims, note_of, Carries}
+use Rattle.block_cache_gen.specs.Prelude.{Pin, Setting, HasHomes, home_of, pin_at, base_mask, unmarked, is_used, claimed_where_used, claim_by, slot_claims, note_of, Carries, first_kept}
 use Rattle.block_cache_gen.proofs.BaseMarks.{base-held, base-public, unmarked-other}
 use Rattle.block_cache_gen.proofs.HeldLabels.{label-high, label-low}
 use Rattle.block_cache_gen.proofs.KeptBelow.{LeavesPublic}
@@ -20,13 +20,13 @@ use Rattle.block_cache_gen.proofs.NamesOfHomes.{array-used, array-served, used-b
 pub leaves-base : (f : Setting) (to : ℕ) (k : Known) → LeavesPublic f (base_mask f) to k
 leaves-base f to k = record {
   lower = λ r low unmarks.
-      let high : 19 ≤ r = label-high f r Public (base-public f r (omega arith) unmarks) in absurd (omega arith);
+      let high : first_kept f ≤ r = label-high f r Public (base-public f r (omega arith) unmarks) in absurd (omega arith);
   held = λ r high low. refl;
 }
 
 -- a mask that is true of what is known stays so where a register that is left out is public
 pub leaves-without : (f : Setting) (mask to r more : ℕ) (k : Known) → LeavesPublic f mask to k → to ≤ more → r < more
-    → r < 19 → is_secret k r ≡ false → LeavesPublic f (unmarked mask r) more k
+    → r < first_kept f → is_secret k r ≡ false → LeavesPublic f (unmarked mask r) more k
 leaves-without f mask to r more k leaves le lt inside public = record {
   lower = λ s within unmarks.
       ⊎_elim
@@ -162,9 +162,9 @@ module _ (o : Parts) (f : Setting) (homes : HasHomes o f) (once : DeclaredOnce f
           (true≢false
           (sym secret
           ∙ ⊎_elim
-          (λ (low : r < 19). let h = leaves.lower r low is in h.1)
-          (λ (high : 19 ≤ r). carries.held r Public (base-public f r lt (sym (leaves.held r high lt) ∙ is)))
-          (cases_lt r 19)))
+          (λ (low : r < first_kept f). let h = leaves.lower r low is in h.1)
+          (λ (high : first_kept f ≤ r). carries.held r Public (base-public f r lt (sym (leaves.held r high lt) ∙ is)))
+          (cases_lt r (first_kept f))))
 
   claimed_used : (used : Bool) (bank : ℕ) → bank < 2 → used ≡ true
       → claimed_bank (if used then bank else 255) ≡ Some bank
@@ -226,9 +226,10 @@ module _ (o : Parts) (f : Setting) (homes : HasHomes o f) (once : DeclaredOnce f
       ap (λ (q : Option Pin). claimed_bank (claim_by q 255)) pinned
   pinned_claim (suc (suc (suc (suc (suc (suc (suc (suc n)))))))) p pinned few apart = absurd (omega arith)
 
-  -- and a note carries the setting, if its mask says of the registers from 19 on what notes between statements say
+  -- and a note carries the setting, if its mask says of the registers that no expression uses what notes between
+  -- statements say
   pub note-carries : (mask place : ℕ)
-      → ((r : ℕ) → 19 ≤ r → r < 32 → is_marked mask r ≡ is_marked (base_mask f) r)
+      → ((r : ℕ) → first_kept f ≤ r → r < 32 → is_marked mask r ≡ is_marked (base_mask f) r)
       → Carries f (note_known (note_of f mask place))
   note-carries mask place based = record {
     registers = length-marks 32 mask;

@@ -10,7 +10,7 @@ use Rattle.trace_patterns.specs.Prelude.{Known, is_marked, claimed_at}
 use Rattle.stretches.specs.Prelude.{StandsAt, HoldsAt, AsItComes, Passes, Done, NotesBetween}
 use Rattle.stretches.proofs.Passed.{GoesOn, passes-noted, notes-before, no_note-there, LieBetween}
 use Rattle.block_cache_gen.specs.declared.frames.Mode.TheVariants.{Public}
-use Rattle.block_cache_gen.specs.Prelude.{Setting, HasHomes, operand_part, operand_register, expr_code, marked_by, operand_mask, expr_notes, Carries, HasLabel, StandsNoted}
+use Rattle.block_cache_gen.specs.Prelude.{Setting, HasHomes, operand_part, operand_register, expr_code, marked_by, operand_mask, expr_notes, Carries, HasLabel, StandsNoted, first_kept, room_of}
 use Rattle.block_cache_gen.proofs.BaseMarks.{unmarked-same, unmarked-other}
 use Rattle.block_cache_gen.proofs.HeldOperands.{IsOperandOf}
 use Rattle.block_cache_gen.proofs.KeptBelow.{LeavesPublic, KeptBelow, PassedBelow}
@@ -23,12 +23,12 @@ use Rattle.gr_word.specs.declared.variables.Label.TheVariants as label
 -- what passing the code of an expression means, at any place
 abbrev pub ExprPasses : Parts → Setting → Tree → Type 0
 ExprPasses o f e =
-    (mask to p : ℕ) (k holds : Known) → to + height_of e ≤ 17
+    (mask to p : ℕ) (k holds : Known) → to + height_of e ≤ room_of f
     → StandsNoted o p (expr_code f Public to e) (expr_notes f mask to p e) → HoldsAt o p k holds → Carries f holds
     → LeavesPublic f mask to holds → PassedBelow o f mask to p e k holds
 
 -- what is known where a setting is carried keeps itself
-pub kept-here : (f : Setting) (mask to : ℕ) (k : Known) → to < 19 → Carries f k → LeavesPublic f mask to k
+pub kept-here : (f : Setting) (mask to : ℕ) (k : Known) → to < first_kept f → Carries f k → LeavesPublic f mask to k
     → KeptBelow f mask to k k
 kept-here f mask to k low carries leaves =
     kept-itself f mask to k carries (λ r lt unmarks. let h = leaves.lower r (omega arith) unmarks in h.1)
@@ -41,7 +41,8 @@ marks_before label.Public mask to r low lt unmarks =
 marks_before label.Secret mask to r low lt unmarks = unmarks
 
 -- after a value the mask of its label says which registers are public
-pub leaves-labelled : (f : Setting) (l : Label) (mask to : ℕ) (k : Known) → to < 19 → LeavesPublic f mask to k → HasLabel k to l
+pub leaves-labelled : (f : Setting) (l : Label) (mask to : ℕ) (k : Known) → to < first_kept f
+    → LeavesPublic f mask to k → HasLabel k to l
     → LeavesPublic f (marked_by l mask to) (to + 1) k
 leaves-labelled f label.Public mask to k low leaves labelled =
     leaves-without f mask to to (to + 1) k leaves (omega arith) (omega arith) low labelled
@@ -54,7 +55,7 @@ label-kept f label.Public mask to more k m low lt labelled kept = kept.publics t
 label-kept f label.Secret mask to more k m low lt labelled kept = kept.secrets to lt labelled
 
 -- the same after an operand
-pub leaves-operand : (f : Setting) (q : Option ℕ) (l : Label) (mask to : ℕ) (k : Known) → to < 19
+pub leaves-operand : (f : Setting) (q : Option ℕ) (l : Label) (mask to : ℕ) (k : Known) → to < first_kept f
     → LeavesPublic f mask to k → HasLabel k (operand_register q to) l
     → LeavesPublic f (operand_mask q l mask to) (to + 1) k
 leaves-operand f None l mask to k low leaves labelled = leaves-labelled f l mask to k low leaves labelled
@@ -111,7 +112,8 @@ module _ (o : Parts) (f : Setting) (homes : HasHomes o f) (e : Tree) (typed : Ty
           let carries = kept.carries in carries.held r _ (operand-label f homes.held e typed r (is r refl))
 
   -- the code of an operand is passed, and other notes may follow its own
-  pub operand-passes : ExprPasses o f e → (mask to p : ℕ) (k holds : Known) → to + height_of e ≤ 17 → to < 19
+  pub operand-passes : ExprPasses o f e → (mask to p : ℕ) (k holds : Known) → to + height_of e ≤ room_of f
+      → to < first_kept f
       → (whole : ℕ) (later : List Note) → StandsAt o p (operand_part q (expr_code f Public to e))
       → NotesBetween o p whole (operand_part q (expr_notes f mask to p e) ++ later)
       → LieBetween (p + length (operand_part q (expr_code f Public to e))) whole later

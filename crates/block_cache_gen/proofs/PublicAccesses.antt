@@ -15,7 +15,7 @@ use Rattle.stretches.specs.Prelude.{StandsAt, HoldsAt, AsItComes, AsClaimed, Pas
 use Rattle.stretches.proofs.Standing.{standing-first, standing-rest}
 use Rattle.stretches.proofs.Passed.{passes-then, passes-to, passes-goes, passes-noted, no_note-before, no_note-behind, notes-before, notes-behind, no_note-there, notes-within, noted, bank-same, secret-same, rules-li, One, NoMore, LieBetween, lie_wider, lie_both}
 use Rattle.block_cache_gen.specs.declared.frames.Mode.TheVariants.{Public}
-use Rattle.block_cache_gen.specs.Prelude.{Home, Setting, HasHomes, Serves, home_of, pin_of, is_cached, is_masked, compares, is_within_home, numbering_by, is_in_place, numbering, reducing, reducer, compared_code, numbered_code, numbered_register, applied_code, fixed_index, reduced_code, shift_code, offset_code, placed_code, located_code, load_code, access_by, operand, operand_part, operand_register, operand_unless, index_operand, indexed_code, expr_code, unmarked, access_mask, note_of, compared_notes, loading_code, loaded_notes, load_notes, index_notes, expr_notes, Carries, HasLabel, shows_index, IndexIsPublic}
+use Rattle.block_cache_gen.specs.Prelude.{Home, Setting, HasHomes, Serves, home_of, pin_of, is_cached, is_masked, compares, is_within_home, numbering_by, is_in_place, numbering, reducing, reducer, compared_code, numbered_code, numbered_register, applied_code, fixed_index, reduced_code, shift_code, offset_code, placed_code, located_code, load_code, access_by, operand, operand_part, operand_register, operand_unless, index_operand, indexed_code, expr_code, unmarked, access_mask, note_of, compared_notes, loading_code, loaded_notes, load_notes, index_notes, expr_notes, Carries, HasLabel, shows_index, IndexIsPublic, first_kept, room_of}
 use Rattle.block_cache_gen.specs.declared.indexes.Numbering.{Numbering}
 use Rattle.block_cache_gen.specs.declared.indexes.Numbering.TheVariants.{Compared, Reduced, Within}
 use Rattle.block_cache_gen.proofs.HeldOperands.{IsOperandOf, operand-unless, operand-apart}
@@ -84,10 +84,10 @@ pub record AccessPassed (o : Parts) (f : Setting) (h : Home) (mask to : ℕ) (p 
 
 module _ (o : Parts) (f : Setting) (homes : HasHomes o f) (once : DeclaredOnce f.decls) where
   -- The number of a word is found, after the code of the index.
-  module _ (h : Home) (l : Label) (mask to : ℕ) (low : to + 2 < 19) (p : ℕ) (comes k holds : Known)
+  module _ (h : Home) (l : Label) (mask to : ℕ) (low : to + 2 < first_kept f) (p : ℕ) (comes k holds : Known)
       (here : HoldsAt o p comes k) (leaves : LeavesPublic f mask to holds) (kept : KeptBelow f mask to holds k) where
     -- the mask leaves the registers below and the number of the word public
-    leaves_number : (m : Known) → SameBelow to k m → is_secret m to ≡ false
+    leaves_number : (m : Known) → SameBelow f to k m → is_secret m to ≡ false
         → LeavesPublic f (unmarked mask to) (to + 1) m
     leaves_number m same word =
         leaves-without f mask to to (to + 1) m
@@ -103,26 +103,26 @@ module _ (o : Parts) (f : Setting) (homes : HasHomes o f) (once : DeclaredOnce f
         let claim = note_known note in
         let sized = kept.carries.registers in
         let open_index : is_secret k to ≡ false = labelled ∙ ap secret_label public in
-        let one = compared_known o to low h k sized open_index in
-        let near = compared_same o to low h k sized open_index in
-        let same_one : SameBelow to k one = record {
+        let one = compared_known o f to low h k sized open_index in
+        let near = compared_same o f to low h k sized open_index in
+        let same_one : SameBelow f to k one = record {
           sized = near.sized;
           count = near.count;
           registers = λ s lt. near.registers s (omega arith);
           above = near.above;
           slots = near.slots;
         } in
-        let last = divided_known o to low h k sized open_index in
-        let same = divided_same o to low h k sized open_index in
-        let left = leaves_number one same_one (compared_word o to low h k sized open_index) in
+        let last = divided_known o f to low h k sized open_index in
+        let same = divided_same o f to low h k sized open_index in
+        let left = leaves_number one same_one (compared_word o f to low h k sized open_index) in
         let fit_one : FitsClaim one claim = note-fits o f homes once (unmarked mask to) r (to + 1) one
         (carries-same f to k one kept.carries same_one)
         left in
         let fit : FitsClaim last claim = note-fits o f homes once (unmarked mask to) r (to + 1) last
         (carries-same f to k last kept.carries same)
-        (leaves_number last same (divided_word o to low h k sized open_index)) in
+        (leaves_number last same (divided_word o f to low h k sized open_index)) in
         let at : claimed_at o r ≡ Some claim = noted o p (r + 1) note between (omega arith) (omega arith) in
-        let goes = compared-by o to low h k sized open_index p claim inside at fit_one in
+        let goes = compared-by o f to low h k sized open_index p claim inside at fit_one in
         record {
           last = last;
           held = claim;
@@ -179,7 +179,7 @@ module _ (o : Parts) (f : Setting) (homes : HasHomes o f) (once : DeclaredOnce f
           word = λ e. labelled ∙ ap secret_label e;
         })
 
-  module _ (h : Home) (i : Tree) (typed : TypedTree (context_of f.decls) i) (mask to : ℕ) (low : to + 2 < 19) (p : ℕ)
+  module _ (h : Home) (i : Tree) (typed : TypedTree (context_of f.decls) i) (mask to : ℕ) (low : to + 2 < first_kept f) (p : ℕ)
       (k holds : Known) (here : HoldsAt o p k holds) (carries : Carries f holds)
       (leaves : LeavesPublic f mask to holds) where
     held_kept : KeptBelow f mask to holds holds
@@ -223,12 +223,13 @@ module _ (o : Parts) (f : Setting) (homes : HasHomes o f) (once : DeclaredOnce f
         (p + length (located_code near f h to (operand_register q to) fixed (index_code q))
         - length (shift_code f h to)))
         → p + length (located_code near f h to (operand_register q to) fixed (index_code q)) < length o.code
-        → to + height_of i ≤ 17 → ExprPasses o f i → (h.bank < 2 → label_of (context_of f.decls) i ≡ label.Public)
+        → to + height_of i ≤ room_of f → ExprPasses o f i
+        → (h.bank < 2 → label_of (context_of f.decls) i ≡ label.Public)
         → h.resident ≡ false
         → LocatedAt o f h mask to p k holds
         (p + length (located_code near f h to (operand_register q to) fixed (index_code q)))
     located_by q is near own open_index (Some z) stands between inside high index public turn =
-        let l = fixed-numbered o to low f.profile.block_log h z p holds carries.registers in
+        let l = fixed-numbered o f to low f.profile.block_log h z p holds carries.registers in
         record {
           last = l.after;
           passes = passes-noted o p _ _ k holds l.after here l.goes stands between inside;
@@ -308,8 +309,8 @@ module _ (o : Parts) (f : Setting) (homes : HasHomes o f) (once : DeclaredOnce f
           let claim = note_known (note_of f (access_mask mask to) r) in
           let range = serves-cached serves cached in
           let sized = kept.carries.registers in
-          let one = asked_known o to low h found sized in
-          let same = asked_same o to low h found sized in
+          let one = asked_known o f to low h found sized in
+          let same = asked_same o f to low h found sized in
           let two = set_bank one h.slot h.bank in
           let bound : bank_known found h.slot ≡ Some h.bank = kept.carries.arrays x l declared turn range in
           let high = range.1 in
@@ -317,7 +318,7 @@ module _ (o : Parts) (f : Setting) (homes : HasHomes o f) (once : DeclaredOnce f
           let bound_one : bank_known one h.slot ≡ Some h.bank = carried.arrays x l declared turn range in
           let slots = carried.slots in
           let carried_two : Carries f two = carries-same f (to + 2) one two carried
-          (same-bound (to + 2) one one h.slot h.bank (same-itself (to + 2) one) (omega arith) (λ lt. bound_one)) in
+          (same-bound f (to + 2) one one h.slot h.bank (same-itself f (to + 2) one) (omega arith) (λ lt. bound_one)) in
           let later : LeavesPublic f mask to one = leaves-later f mask to holds one leaves
           (λ s lt unmarks. same.registers s (omega arith) ∙ kept.publics s lt unmarks) in
           let first = leaves-without f mask to to (to + 1) one later (omega arith) (omega arith) (omega arith)
@@ -326,14 +327,14 @@ module _ (o : Parts) (f : Setting) (homes : HasHomes o f) (once : DeclaredOnce f
           (omega arith)
           (omega arith) (same.registers (to + 1) (omega arith) ∙ block cached) in
           let third = leaves-without f (unmarked (unmarked mask to) (to + 1)) (to + 2) (to + 2) (to + 3) one second
-          (omega arith) (omega arith) (omega arith) (asked_block o to low h found sized) in
+          (omega arith) (omega arith) (omega arith) (asked_block o f to low h found sized) in
           let fit : FitsClaim one claim = note-fits o f homes once (access_mask mask to) r (to + 3) one carried third in
           let fit_two : FitsClaim two claim = note-fits o f homes once (access_mask mask to) r
           (to + 3) two carried_two (record { lower = third.lower; held = third.held }) in
           let at : claimed_at o r ≡ Some claim = noted o q (r + 1) (note_of f (access_mask mask to) r) between
           (omega arith)
           (omega arith) in
-          let goes = skipped_by o to low h found sized q claim cached bound (block cached) (omega arith)
+          let goes = skipped_by o f to low h found sized q claim cached bound (block cached) (omega arith)
           (subst (λ (s : ℕ). claimed_at o s ≡ Some claim) (sym size) at) fit in
           let quiet : (s : ℕ) → q ≤ s → s < q + 3 → claimed_at o s ≡ None = (λ s above below.
           ⊎_elim
@@ -374,7 +375,7 @@ module _ (o : Parts) (f : Setting) (homes : HasHomes o f) (once : DeclaredOnce f
           let six : h.slot ≡ 6 = serves-oblivious serves high in
           let slots = kept.carries.slots in
           let two = set_bank found h.slot h.bank in
-          let same : SameBelow to found two = same-bound to found found h.slot h.bank (same-itself to found)
+          let same : SameBelow f to found two = same-bound f to found found h.slot h.bank (same-itself f to found)
           (omega arith)
           (λ apart. absurd (apart six)) in
           let quiet : (s : ℕ) → q ≤ s → s < q + 1 → claimed_at o s ≡ None = (λ s above below.
@@ -384,7 +385,7 @@ module _ (o : Parts) (f : Setting) (homes : HasHomes o f) (once : DeclaredOnce f
             held = two;
             passes
                 = passes-to o q found (q + 1) r two size
-                (passes-goes o q _ found two (loaded-by o to low h found q high) stands quiet (omega arith));
+                (passes-goes o q _ found two (loaded-by o f to low h found q high) stands quiet (omega arith));
             here = AsItComes two (between r (omega arith) (omega arith));
             kept = kept-same f mask to holds found two kept same;
             bound = bank-same found h.slot h.bank (omega arith);
@@ -443,7 +444,7 @@ module _ (o : Parts) (f : Setting) (homes : HasHomes o f) (once : DeclaredOnce f
         ++ compared_notes near fixed f mask to
         (p + length (placed_code near f h to (operand_register q to) fixed (index_code q)) - length (offset_code f h to to)))
         → p + length (placed_code near f h to (operand_register q to) fixed (index_code q)) < length o.code
-        → to + height_of i ≤ 17 → ExprPasses o f i
+        → to + height_of i ≤ room_of f → ExprPasses o f i
         → (shows_index h ≡ true → label_of (context_of f.decls) i ≡ label.Public)
         → PlacedAt o f h mask to p k holds (p + length (placed_code near f h to (operand_register q to) fixed (index_code q)))
     placed_by q is near own open_index (Some z) stands between inside high index public =
@@ -456,7 +457,7 @@ module _ (o : Parts) (f : Setting) (homes : HasHomes o f) (once : DeclaredOnce f
               (One p _ _ holds one one (rules-li o p holds to _) (NoMore (p + 1) one)) stands
               (λ s above below. between s above (omega arith)) inside;
           kept = kept-same f mask to holds holds one held_kept
-              (same-set to holds holds to false (omega arith) (omega arith) (same-itself to holds));
+              (same-set f to holds holds to false (omega arith) (omega arith) (same-itself f to holds));
           word = λ shows. secret-same holds to false (omega arith);
           here = AsItComes one (between (p + 1) (omega arith) (omega arith));
         }
@@ -526,7 +527,7 @@ module _ (o : Parts) (f : Setting) (homes : HasHomes o f) (once : DeclaredOnce f
       → context_of f.decls x ≡ Some (l, Array) → (b : Bool) (near : Numbering) → (home_of f x).resident ≡ b
       → (near ≡ Compared → label_of (context_of f.decls) i ≡ label.Public)
       → (shows_index (home_of f x) ≡ true → label_of (context_of f.decls) i ≡ label.Public)
-      → ExprPasses o f i → to + height_of i ≤ 17 → to + 2 < 19
+      → ExprPasses o f i → to + height_of i ≤ room_of f → to + 2 < first_kept f
       → StandsAt o p (code_by b near to x i)
       → NotesBetween o p (p + length (code_by b near to x i) + 1)
       (index_notes (fixed_index (home_of f x) i) (operand_part (index_operand f near (home_of f x) i) (expr_notes f mask to p i))
@@ -630,7 +631,7 @@ module _ (o : Parts) (f : Setting) (homes : HasHomes o f) (once : DeclaredOnce f
 
   pub access-passes : (x : List ℕ) (l : Label) (i : Tree) → TypedTree (context_of f.decls) i → (mask to p : ℕ)
       (k holds : Known) → context_of f.decls x ≡ Some (l, Array) → IndexIsPublic f x i
-      → ExprPasses o f i → to + height_of i ≤ 17 → to + 2 < 19
+      → ExprPasses o f i → to + height_of i ≤ room_of f → to + 2 < first_kept f
       → StandsAt o p (array_code f to x i)
       → NotesBetween o p (p + length (array_code f to x i) + 1) (array_notes f mask to p x i)
       → p + length (array_code f to x i) < length o.code → HoldsAt o p k holds → Carries f holds

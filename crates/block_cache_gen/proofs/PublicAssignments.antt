@@ -99,7 +99,7 @@ module _ (o : Parts) (f : Setting) (homes : HasHomes o f) (once : DeclaredOnce f
         let sized = carries.registers in
         let one = set_secret k 1 false in
         let carried : Carries f one = carries-same f 1 k one carries
-        (same-set 1 k k 1 false (omega arith) (omega arith) (same-itself 1 k)) in
+        (same-set f 1 k k 1 false (omega arith) (omega arith) (same-itself f 1 k)) in
         let bound : bank_known one h.slot ≡ Some h.bank =
         resident_bound o f homes one x l Scalar declared scalar.resident carried in
         let public : h.bank ≡ 0 → is_secret one from ≡ false = (λ zero.

@@ -20,7 +20,7 @@ use Rattle.stretches.specs.Prelude.{HoldsAt, NotesBetween, Passes}
 use Rattle.stretches.proofs.Standing.{standing-first, standing-rest, standing-head}
 use Rattle.stretches.proofs.Passed.{passes-then, passes-to, passes-one, passes-goes, passes-noted, NoMore, One, rules-li, rules-alu, rules-ldw, secret-same, notes-before, notes-behind, notes-within, no_note-behind, LieBetween, lie_wider, lie_both}
 use Rattle.block_cache_gen.specs.declared.frames.Mode.TheVariants.{Public}
-use Rattle.block_cache_gen.specs.Prelude.{Setting, HasHomes, home_of, pin_of, register_for, fixed_index, read_code, scalar_code, operand, operand_part, operand_register, operand_unless, operation_code, steps_at, expr_code, operand_mask, operation_notes, expr_notes, Carries, IndexIsPublic, HasPublicIndexes, HasLabel, StandsNoted}
+use Rattle.block_cache_gen.specs.Prelude.{Setting, HasHomes, home_of, pin_of, register_for, fixed_index, read_code, scalar_code, operand, operand_part, operand_register, operand_unless, operation_code, steps_at, expr_code, operand_mask, operation_notes, expr_notes, Carries, IndexIsPublic, HasPublicIndexes, HasLabel, StandsNoted, first_kept, room_of}
 use Rattle.strength_reduction.specs.Prelude.{Step, numbered, code_of}
 use Rattle.step_code.proofs.StepPasses.{passes-steps}
 use Rattle.block_cache_gen.proofs.StepsAt.{StepsOf, steps-of}
@@ -94,14 +94,14 @@ module _ (o : Parts) (f : Setting) (homes : HasHomes o f) (once : DeclaredOnce f
         kept
             = kept-same f mask to holds holds (set_secret holds to false)
             (kept-here f mask to holds (omega arith) carries leaves)
-            (same-set to holds holds to false (omega arith) (omega arith) (same-itself to holds));
+            (same-set f to holds holds to false (omega arith) (omega arith) (same-itself f to holds));
         labelled = secret-same holds to false (omega arith);
       }
 
   -- the code of a scalar, by the register that holds it
   abbrev ScalarPasses : List ℕ → Option ℕ → Type 0
   ScalarPasses x found =
-      (mask to p : ℕ) (k holds : Known) → to < 19
+      (mask to p : ℕ) (k holds : Known) → to < first_kept f
       → StandsNoted o p (scalar_code found (home_of f x) to) [] → HoldsAt o p k holds → Carries f holds
       → LeavesPublic f mask to holds
       → PassedCode o f mask to p (scalar_code found (home_of f x) to) (label_of (context_of f.decls) (Variable x)) k holds
@@ -121,7 +121,7 @@ module _ (o : Parts) (f : Setting) (homes : HasHomes o f) (once : DeclaredOnce f
             stands.code_stands stands.noted stands.behind;
         kept
             = kept-same f mask to holds holds last (kept-here f mask to holds low carries leaves)
-            (same-set to holds holds to _ (omega arith) low (same-itself to holds));
+            (same-set f to holds holds to _ (omega arith) low (same-itself f to holds));
         labelled
             = secret-same holds to (is_secret holds r || is_secret holds public_zero) (omega arith)
             ∙ ap (λ (b : Bool). is_secret holds r || b) (carries.held public_zero label.Public zero)
@@ -138,7 +138,7 @@ module _ (o : Parts) (f : Setting) (homes : HasHomes o f) (once : DeclaredOnce f
       let sized = carries.registers in
       let one = set_secret holds to false in
       let two = set_secret one to (not (is_ram h.bank) || is_secret one to) in
-      let first = same-set to holds holds to false (omega arith) (omega arith) (same-itself to holds) in
+      let first = same-set f to holds holds to false (omega arith) (omega arith) (same-itself f to holds) in
       let size : length one.secret ≡ 32 = first.sized ∙ sized in
       let bound : bank_known one h.slot ≡ Some h.bank =
       resident_bound o f homes holds x l Scalar declared scalar.resident carries in
@@ -151,7 +151,7 @@ module _ (o : Parts) (f : Setting) (homes : HasHomes o f) (once : DeclaredOnce f
             stands.code_stands stands.noted stands.behind;
         kept
             = kept-same f mask to holds holds two (kept-here f mask to holds (omega arith) carries leaves)
-            (same-set to holds one to _ (omega arith) (omega arith) first);
+            (same-set f to holds one to _ (omega arith) (omega arith) first);
         labelled
             = secret-same one to (not (is_ram h.bank) || is_secret one to) (omega arith)
             ∙ ap (λ (b : Bool). not (is_ram h.bank) || b) (secret-same holds to false (omega arith))
@@ -231,7 +231,7 @@ module _ (o : Parts) (f : Setting) (homes : HasHomes o f) (once : DeclaredOnce f
 
   abbrev OperationPasses : Op → Tree → Tree → Option (List Step) → Type 0
   OperationPasses op a b found =
-      (mask to p : ℕ) (k holds : Known) → to + (max (height_of a) (height_of b) + 1) ≤ 17
+      (mask to p : ℕ) (k holds : Known) → to + (max (height_of a) (height_of b) + 1) ≤ room_of f
       → StandsNoted o p (operation_by op a b found to) (notes_by op a b found mask to p)
       → HoldsAt o p k holds → Carries f holds → LeavesPublic f mask to holds
       → PassedCode o f mask to p (operation_by op a b found to)
@@ -289,7 +289,7 @@ module _ (o : Parts) (f : Setting) (homes : HasHomes o f) (once : DeclaredOnce f
         kept
             = kept-same f mask to holds r.held last
             (kept-then f q (label_of known a) mask to holds l.held r.held (omega arith) l.kept r.kept)
-            (same-set to r.held r.held to _ (omega arith) (omega arith) (same-itself to r.held));
+            (same-set f to r.held r.held to _ (omega arith) (omega arith) (same-itself f to r.held));
         labelled
             = secret-same r.held to (is_secret r.held from || is_secret r.held by) (omega arith)
             ∙ ap (λ (b : Bool). b || is_secret r.held by)
@@ -321,7 +321,7 @@ module _ (o : Parts) (f : Setting) (homes : HasHomes o f) (once : DeclaredOnce f
         behind = omega arith;
       }) here carries leaves in
       let sized = l.kept.carries.registers in
-      let room : to + 2 < 19 = omega (arith, height-some b) in
+      let room : to + 2 < first_kept f = omega (arith, height-some b) in
       let inside : to + 2 < 32 = omega arith in
       let secret : ℕ → Bool = λ i. is_secret l.last (numbered to i) in
       let s = passes-steps o to inside steps secret mid l.last replaces.fits sized (λ i low. refl) in
@@ -331,7 +331,7 @@ module _ (o : Parts) (f : Setting) (homes : HasHomes o f) (once : DeclaredOnce f
       (lie_both p mid before [] lie_before tt) above)) in
       let second : Passes o mid l.last (mid + length rest) s.last = passes-goes o mid rest l.last s.last s.goes
       (standing-rest first rest stands.code_stands) quiet (omega arith) in
-      let same : SameBelow to l.last s.last = record {
+      let same : SameBelow f to l.last s.last = record {
         sized = s.count;
         count = ap length s.banks;
         registers = s.below;

@@ -7,7 +7,7 @@ use Rattle.stretches.specs.Prelude.{HoldsAt, AsItComes}
 use Rattle.stretches.proofs.Standing.{standing-first, standing-rest}
 use Rattle.stretches.proofs.Passed.{passes-then, passes-to, notes-before, notes-behind, no_note-there, notes-within, LieBetween, lie_wider, lie_both}
 use Rattle.block_cache_gen.specs.declared.frames.Mode.TheVariants.{Public}
-use Rattle.block_cache_gen.specs.Prelude.{Setting, HasHomes, expr_code, guard_code, base_mask, marked_by, expr_notes, guard_notes, Carries, TestHasPublicIndexes, StandsNoted, PassedTest}
+use Rattle.block_cache_gen.specs.Prelude.{Setting, HasHomes, expr_code, guard_code, base_mask, marked_by, expr_notes, guard_notes, Carries, TestHasPublicIndexes, StandsNoted, PassedTest, room_of}
 use Rattle.block_cache_gen.proofs.NoteClaims.{leaves-base}
 use Rattle.block_cache_gen.proofs.NotesOfCode.{expression-longer, expression-lies}
 use Rattle.block_cache_gen.proofs.OperandPasses.{leaves-labelled, label-kept}
@@ -32,7 +32,7 @@ guard-lie f to p t =
 -- the code of a guard is passed in public code
 pub guard-passes : (o : Parts) (f : Setting) → HasHomes o f → DeclaredOnce f.decls → (t : Test)
     → TypedTest (context_of f.decls) t → TestHasPublicIndexes f t → (to p : ℕ) (k holds : Known)
-    → to + height_of t.left ≤ 17 → to + 1 + height_of t.right ≤ 17
+    → to + height_of t.left ≤ room_of f → to + 1 + height_of t.right ≤ room_of f
     → StandsNoted o p (guard_code f Public to t) (guard_notes f to p t) → HoldsAt o p k holds → Carries f holds
     → PassedTest o f to p (guard_code f Public to t) t k
 guard-passes o f homes once t typed public to p k holds high higher stands here carries =

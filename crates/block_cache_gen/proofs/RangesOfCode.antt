@@ -22,7 +22,7 @@ use Rattle.lt_isa.specs.Prelude.{InstrFits}
 use Rattle.src_tree.specs.Prelude.{context_of, height_of, label_of, max_length, Tree, Number, Variable, Element, Operation, Test, SetVariable, SetElement, TypedTree, TypedTest}
 use Rattle.block_cache_gen.specs.declared.frames.Mode.{Mode}
 use Rattle.block_cache_gen.specs.declared.frames.Mode.TheVariants.{Public, Real, Mirrored}
-use Rattle.block_cache_gen.specs.Prelude.{Pin, pin_at, Home, Setting, home_of, register_for, words_a_block, further_slots, slots_of_home, slot_of_word, HasWords, is_masked, held_number, applied_code, reducing, reducer, is_in_place, numbering, least_word, numbered_code, numbered_register, fixed_index, fixed_word, shift_code, fixed_code, located_code, load_code, skips, access_by, placed_code, offset_code, stored_code, access_code, index_operand, indexed_code, operand, operand_part, operand_register, left_operand, expr_code, guard_code, store_code, set_code, operation_code, steps_at, copy_code, scalar_code, write_code, read_by, read_code, stored_among, stored_by, effect_of, straight, scalar_set, straight_code, target}
+use Rattle.block_cache_gen.specs.Prelude.{Pin, pin_at, Home, Setting, home_of, register_for, words_a_block, further_slots, slots_of_home, slot_of_word, HasWords, is_masked, held_number, applied_code, reducing, reducer, is_in_place, numbering, least_word, numbered_code, numbered_register, fixed_index, fixed_word, shift_code, fixed_code, located_code, load_code, skips, access_by, placed_code, offset_code, stored_code, access_code, index_operand, indexed_code, operand, operand_part, operand_register, left_operand, expr_code, guard_code, store_code, set_code, operation_code, steps_at, copy_code, scalar_code, write_code, read_by, read_code, stored_among, stored_by, effect_of, straight, scalar_set, straight_code, target, first_kept, room_of}
 use Rattle.held_registers.specs.Prelude.{secret_zero, public_zero, IsSoundHeld}
 use Rattle.block_cache_gen.specs.declared.indexes.Numbering.{Numbering}
 use Rattle.strength_reduction.specs.Prelude.{Step, Constant, Compute, StepFits, numbered, code_of}
@@ -149,7 +149,7 @@ module _ (banks : ℕ) where
   both xs ys first second = code-both banks xs ys first second
 
   module _ (f : Setting) (homes : HomesFit banks f) (h : Home) (home : HomeFits banks h) (to : ℕ)
-      (low : to + 2 < 19) where
+      (low : to + 2 < first_kept f) where
     applied_by : (op : Op) (rd from own : ℕ) (z : ℤ) → rd < 32 → from < 32 → own < 32 → IsWord z
         → CodeFits banks (applied_code f op rd from own z)
     applied_by op rd from own z inside source place word = by (held_number f z) refl
@@ -262,19 +262,20 @@ module _ (banks : ℕ) where
             (located_by near from fixed index inside fit) (load_by (skips mode h))
 
   -- steps
-  steps-fit : (to : ℕ) (steps : List Step) → to + 2 < 19 → All StepFits steps → CodeFits banks (code_of to steps)
-  steps-fit to [] room fit = none
-  steps-fit to (Constant rd value ∷ steps) room fit =
+  steps-fit : (f : Setting) (to : ℕ) (steps : List Step) → to + 2 < first_kept f → All StepFits steps
+      → CodeFits banks (code_of to steps)
+  steps-fit f to [] room fit = none
+  steps-fit f to (Constant rd value ∷ steps) room fit =
       let first = All-head StepFits (Constant rd value) steps fit in
       li (numbered to rd) value (code_of to steps) (numbered-low to 2 rd first.0 (omega arith)) first.1
-      (steps-fit to steps room (All-tail StepFits (Constant rd value) steps fit))
-  steps-fit to (Compute op rd left right ∷ steps) room fit =
+      (steps-fit f to steps room (All-tail StepFits (Constant rd value) steps fit))
+  steps-fit f to (Compute op rd left right ∷ steps) room fit =
       let first = All-head StepFits (Compute op rd left right) steps fit in
       alu op (numbered to rd) (numbered to left) (numbered to right) (code_of to steps)
       (numbered-low to 2 rd first.0 (omega arith)) (numbered-low to 2 left first.1 (omega arith)) (numbered-low to 2 right first.2 (omega arith))
-      (steps-fit to steps room (All-tail StepFits (Compute op rd left right) steps fit))
+      (steps-fit f to steps room (All-tail StepFits (Compute op rd left right) steps fit))
 
-  operation-fits : (f : Setting) (op : Op) (to ra rb : ℕ) (b : Tree) (right : List Instr) → to + 2 < 19
+  operation-fits : (f : Setting) (op : Op) (to ra rb : ℕ) (b : Tree) (right : List Instr) → to + 2 < first_kept f
       → ra < 32 → rb < 32 → CodeFits banks right → CodeFits banks (operation_code op to ra rb (steps_at f op b) right)
   operation-fits f op to ra rb b right room first second fit = by (steps_at f op b) refl
     where
@@ -284,7 +285,7 @@ module _ (banks : ℕ) where
       by (Some steps) e =
           let known = steps-of f op b steps e in
           let replaces = known.replaces in
-          steps-fit to steps room replaces.fits
+          steps-fit f to steps room replaces.fits
 
   -- a copy
   copy-fits : (l : Label) (to from : ℕ) → to < 32 → from < 32 → CodeFits banks (copy_code l to from)
@@ -322,7 +323,8 @@ module _ (banks : ℕ) where
 
   -- an expression
   pub expression-fits : (f : Setting) (mode : Mode) → HomesFit banks f → (to : ℕ) (e : Tree)
-      → TypedTree (context_of f.decls) e → HasWords e → to + height_of e ≤ 17 → CodeFits banks (expr_code f mode to e)
+      → TypedTree (context_of f.decls) e → HasWords e → to + height_of e ≤ room_of f
+      → CodeFits banks (expr_code f mode to e)
   expression-fits f mode homes to (Number z) typed words high = li to z [] (omega arith) words none
   expression-fits f mode homes to (Variable x) typed words high =
       scalar-fits (home_of f x) (homes.homes x typed.0 _ typed.1) to (omega arith) (register_for f x)
@@ -351,8 +353,8 @@ module _ (banks : ℕ) where
 
   -- a guard
   pub guard-fits : (f : Setting) (mode : Mode) → HomesFit banks f → (to : ℕ) (t : Test)
-      → TypedTest (context_of f.decls) t → HasWords t.left → HasWords t.right → to + height_of t.left ≤ 17
-      → to + 1 + height_of t.right ≤ 17 → CodeFits banks (guard_code f mode to t)
+      → TypedTest (context_of f.decls) t → HasWords t.left → HasWords t.right → to + height_of t.left ≤ room_of f
+      → to + 1 + height_of t.right ≤ room_of f → CodeFits banks (guard_code f mode to t)
   guard-fits f mode homes to t typed left right high higher =
       both (expr_code f mode to t.left) (expr_code f mode (to + 1) t.right)
       (expression-fits f mode homes to t.left typed.0 left high)
@@ -408,7 +410,7 @@ module _ (banks : ℕ) where
   -- an operation with its result in any register
   straight-fits : (f : Setting) (mode : Mode) → HomesFit banks f → (to : ℕ) → to < 32 → (op : Op) (a b : Tree)
       → TypedTree (context_of f.decls) (Operation op a b) → HasWords (Operation op a b)
-      → height_of (Operation op a b) ≤ 17 → CodeFits banks (straight_code f mode to (Operation op a b))
+      → height_of (Operation op a b) ≤ room_of f → CodeFits banks (straight_code f mode to (Operation op a b))
   straight-fits f mode homes to inside op a b typed words low =
       let q = operand f a in
       let p = operand f b in
@@ -423,14 +425,15 @@ module _ (banks : ℕ) where
   -- assignments
   pub set_variable-fits : (f : Setting) (mode : Mode) → HomesFit banks f → (x : List ℕ) (label : Label) (shape : Shape)
       (e : Tree)
-      → context_of f.decls x ≡ Some (label, shape) → TypedTree (context_of f.decls) e → HasWords e → height_of e ≤ 17
+      → context_of f.decls x ≡ Some (label, shape) → TypedTree (context_of f.decls) e → HasWords e
+      → height_of e ≤ room_of f
       → CodeFits banks (set_code f mode (SetVariable x e))
   set_variable-fits f mode homes x label shape e declared typed words low = by (straight f x e) refl
     where
       by : (found : Option ℕ) → straight f x e ≡ found → CodeFits banks (scalar_set found f mode x e)
       by (Some r) is =
           straight-by f x e r is
-          (λ t. TypedTree (context_of f.decls) t → HasWords t → height_of t ≤ 17
+          (λ t. TypedTree (context_of f.decls) t → HasWords t → height_of t ≤ room_of f
           → CodeFits banks (straight_code f mode (target mode r) t))
           (λ op a b known typed_value words_value low_value.
           straight-fits f mode homes (target mode r)
@@ -447,7 +450,7 @@ module _ (banks : ℕ) where
   -- the code of an assignment to an element is in its ranges
   pub set_element-fits : (f : Setting) (mode : Mode) → HomesFit banks f → (x : List ℕ) (i e : Tree)
       → TypedTree (context_of f.decls) (Element x i) → TypedTree (context_of f.decls) e → HasWords i → HasWords e
-      → height_of i ≤ 16 → height_of e ≤ 17 → CodeFits banks (set_code f mode (SetElement x i e))
+      → height_of i ≤ 16 → height_of e ≤ room_of f → CodeFits banks (set_code f mode (SetElement x i e))
   set_element-fits f mode homes x i e typed value index words low_index low =
       let home = homes.homes x typed.0.0 _ typed.0.1 in
       let near = numbering f mode (home_of f x) i in

@@ -15,7 +15,7 @@ use Rattle.stretches.proofs.RunningThrough.{runs-one, runs-append, runs-weaker, 
 use Rattle.src_tree.specs.Prelude.{context_of, Store, variable_number, words_of_number, evaluated, Tree}
 use Rattle.block_cache_gen.specs.declared.frames.Mode.{Mode}
 use Rattle.block_cache_gen.specs.declared.indexes.Numbering.{Numbering}
-use Rattle.block_cache_gen.specs.Prelude.{pin_at, slot_of_word, words_a_block, Home, Setting, HasHomes, home_of, register_for, applied_code, fixed_index, fixed_word, numbered_code, numbered_register, offset_code, placed_code, StandsFor, FitsHomes, HoldsBlock, accesses, word_number, seen_of_all, LeavesWord}
+use Rattle.block_cache_gen.specs.Prelude.{pin_at, slot_of_word, words_a_block, Home, Setting, HasHomes, home_of, register_for, applied_code, fixed_index, fixed_word, numbered_code, numbered_register, offset_code, placed_code, StandsFor, FitsHomes, HoldsBlock, accesses, word_number, seen_of_all, LeavesWord, first_kept}
 use Rattle.scratch_alloc.specs.Prelude.{pin_to}
 use Rattle.block_cache_gen.proofs.HomeFacts.{block_words-is}
 use Rattle.block_cache_gen.proofs.WordSlots.{word-pinned, words-few}
@@ -27,14 +27,14 @@ use Rattle.block_cache_gen.proofs.AccessRuns.{fixed-is}
 -- the first word of a variable is added to a number, unless that is 0
 runs-offset : (o : Parts) (fits : IsInRange o) (f : Setting) (store : Store) (h : Home) (to from n : ℕ) (s : State)
     → IsShaped o s → StandsFor f s store → register s from ≡ pos n → from ≢ to + 1 → ((h.word == 0) ≡ true → from ≡ to)
-    → to + 2 < 19 → h.word + n < 2 ^ 63 → StandsAt o s.place (offset_code f h to from)
-    → RunsThrough o s (offset_code f h to from) [] (Reduces to (h.word + n) s)
+    → to + 2 < first_kept f → h.word + n < 2 ^ 63 → StandsAt o s.place (offset_code f h to from)
+    → RunsThrough o s (offset_code f h to from) [] (Reduces f to (h.word + n) s)
 runs-offset o fits f store h to from n s shaped stands has apart own below small =
     cond_both (h.word == 0) [] (applied_code f Add to from (to + 1) (pos h.word))
-    (λ code. StandsAt o s.place code → RunsThrough o s code [] (Reduces to (h.word + n) s))
+    (λ code. StandsAt o s.place code → RunsThrough o s code [] (Reduces f to (h.word + n) s))
     (λ none at.
     let first : h.word ≡ 0 = eqb-true h.word 0 none in
-    runs-nothing s (Reduces to (h.word + n) s) shaped
+    runs-nothing s (Reduces f to (h.word + n) s) shaped
     (record {
       word = ap (register s) (sym (own none)) ∙ has ∙ ap pos (let e : n ≡ h.word + n = omega arith in e);
       keeps = record { below = λ r under. refl; above = λ r over. refl; slots = refl; banks = refl };
@@ -42,7 +42,7 @@ runs-offset o fits f store h to from n s shaped stands has apart own below small
     (λ some at.
     let value = pos (h.word + n) in
     let code = applied_code f Add to from (to + 1) (pos h.word) in
-    runs-weaker s code [] [] (Computes to value s) (Reduces to (h.word + n) s)
+    runs-weaker s code [] [] (Computes f to value s) (Reduces f to (h.word + n) s)
     (runs-applied o fits f store Add to from (to + 1) (pos h.word) (pos n) value s shaped stands has apart (omega arith)
     (omega arith)
     (add_small n h.word (omega arith) ∙ ap pos (omega arith)) at)
@@ -88,7 +88,7 @@ module _ (o : Parts) (fits : IsInRange o) (f : Setting) (homes : HasHomes o f) (
 
   -- the word that a register names is read
   pub runs-read : (to n : ℕ) (s : State) → IsShaped o s → StandsFor f s store → n < (home_of f x).length → register_for f x ≡ None
-      → to < 19 → register s to ≡ pos ((home_of f x).word + n)
+      → to < first_kept f → register s to ≡ pos ((home_of f x).word + n)
       → StandsAt o s.place (Ldw to (slot_of_word f (home_of f x) ((home_of f x).word + n)) to ∷ [])
       → RunsThrough o s (Ldw to (slot_of_word f (home_of f x) ((home_of f x).word + n)) to ∷ []) []
       (Sets s to (get_or (words_of_number store (variable_number f.decls x)) n (pos 0)))
@@ -110,7 +110,7 @@ module _ (o : Parts) (fits : IsInRange o) (f : Setting) (homes : HasHomes o f) (
 
   -- the place of the word is found, after the code of the index
   pub runs-placed : (mode : Mode) (to from : ℕ) (i : Tree) (code : List Instr) (s : State) → IsShaped o s
-      → StandsFor f s store → to + 2 < 19 → from ≢ to + 1 → RunsValue o f store mode to from i code s
+      → StandsFor f s store → to + 2 < first_kept f → from ≢ to + 1 → RunsValue o f store mode to from i code s
       → (way : Numbering) → FitsNumbering way (home_of f x) to from (evaluated f.decls store i)
       → (fixed : Option ℤ) → fixed_index (home_of f x) i ≡ fixed
       → StandsAt o s.place (placed_code way f (home_of f x) to from fixed code)
@@ -158,12 +158,12 @@ module _ (o : Parts) (fits : IsInRange o) (f : Setting) (homes : HasHomes o f) (
       run
       (λ t shape leaves at'.
       runs-append t number added [] []
-      (Numbers at_number to (unsigned_of index % h.length) t) Done at'
+      (Numbers f at_number to (unsigned_of index % h.length) t) Done at'
       (runs-numbered o fits f store way h to from t index shape leaves.stands leaves.value other own small home.length.0 home.length.1)
       (λ u shape' reduces at''.
       let word : register u at_number ≡ pos n = reduces.word ∙ ap pos (resident_number-is index) in
       let stands' = stands-like f t u store reduces.keeps.slots reduces.keeps.banks reduces.keeps.above leaves.stands in
-      runs-weaker u added [] [] (Reduces to (h.word + n) u) Done
+      runs-weaker u added [] [] (Reduces f to (h.word + n) u) Done
       (runs-offset o fits f store h to at_number n u shape' stands' word (numbered-apart way to from other)
       (numbered-first way h to from index own) small small_place at'')
       refl

@@ -13,16 +13,16 @@ use Rattle.stretches.proofs.RunningThrough.{runs-cons, runs-one, runs-weaker, se
 use Rattle.src_tree.specs.Prelude.{context_of, Store, variable_number, words_of_number, with_word}
 use Rattle.block_cache_gen.specs.declared.frames.Mode.{Mode}
 use Rattle.block_cache_gen.specs.declared.frames.Mode.TheVariants.{Public, Real, Mirrored}
-use Rattle.block_cache_gen.specs.Prelude.{Setting, HasHomes, home_of, slot_of_word, words_a_block, register_for, store_code, StandsFor, FitsHomes, HoldsBlock, Assigns, by_mode, words_written}
+use Rattle.block_cache_gen.specs.Prelude.{Setting, HasHomes, home_of, slot_of_word, words_a_block, register_for, store_code, StandsFor, FitsHomes, HoldsBlock, Assigns, by_mode, words_written, first_kept}
 use Rattle.block_cache_gen.proofs.HomeFacts.{block_words-is}
 use Rattle.block_cache_gen.proofs.Stands.{stands-like}
 use Rattle.block_cache_gen.proofs.Stores.{fits-with_word, with_word-by_mode}
 use Rattle.block_cache_gen.proofs.ResidentStores.{stands-resident_set}
 use Rattle.block_cache_gen.proofs.ResidentRuns.{resident-held}
 
--- a slot was bound anew, and the banks and the registers from 19 on are as before
+-- a slot was bound anew, and the banks and the registers from 3 on are as before
 pub record Binds (k : ℕ) (found : Slot) (s t : State) : Type 0 where
-  pub above : (r : ℕ) → 19 ≤ r → register t r ≡ register s r
+  pub above : (r : ℕ) → 3 ≤ r → register t r ≡ register s r
   pub slots : t.slots ≡ set s.slots k found
   pub banks : t.banks ≡ s.banks
 
@@ -122,7 +122,7 @@ module _ (o : Parts) (fits : IsInRange o) (f : Setting) (homes : HasHomes o f) (
       → after.slots ≡ set u.slots (slot_of_word f (home_of f x) ((home_of f x).word + n))
       (Bound (home_of f x).bank ((home_of f x).block + ((home_of f x).word + n) / words_a_block f)
       (words_written mode held.words (((home_of f x).word + n) % block_words o) value))
-      → after.banks ≡ u.banks → ((r : ℕ) → 19 ≤ r → register after r ≡ register u r)
+      → after.banks ≡ u.banks → ((r : ℕ) → first_kept f ≤ r → register after r ≡ register u r)
       → Assigns f (by_mode mode (with_word store (variable_number f.decls x) n value) store) after
   put-done mode x label shape known resident free n within value is u shaped stands held after slots banks above =
       let h = home_of f x in
@@ -175,4 +175,4 @@ module _ (o : Parts) (fits : IsInRange o) (f : Setting) (homes : HasHomes o f) (
       refl
       (λ after shape'' binds.
       put-done mode x label shape known resident free n within value is u shaped stands held after binds.slots binds.banks
-      binds.above)
+      (λ r over. binds.above r (omega (arith, over))))

@@ -7,7 +7,7 @@ use Rattle.src_tree.specs.Prelude.{context_of, height_of, LowStatement, Tree, Te
 use Rattle.stretches.specs.Prelude.{Show, pattern_of, StandsInArm}
 use Rattle.trace_patterns.specs.Prelude.{SymState}
 use Rattle.block_cache_gen.specs.declared.frames.Mode.{Mode}
-use Rattle.block_cache_gen.specs.Prelude.{Setting, may_skip_loads, expr_code, guard_code, set_code, HasPublicIndexes, TestHasPublicIndexes, SetHasPublicIndexes, Loads, tree_of_expr, shows_of_expr, slots_of_expr, shows_of_test, slots_of_test, shows_of_set, slots_of_set, ArmWalk, IsWalkedAsExpr, IsWalkedAsTest, IsWalkedAsSet}
+use Rattle.block_cache_gen.specs.Prelude.{Setting, may_skip_loads, expr_code, guard_code, set_code, HasPublicIndexes, TestHasPublicIndexes, SetHasPublicIndexes, Loads, tree_of_expr, shows_of_expr, slots_of_expr, shows_of_test, slots_of_test, shows_of_set, slots_of_set, ArmWalk, IsWalkedAsExpr, IsWalkedAsTest, IsWalkedAsSet, room_of}
 use Rattle.block_cache_gen.proofs.PublicTrees.{public-tree}
 use Rattle.block_cache_gen.proofs.ArmExpressions.{expr-leaves, guard-leaves}
 use Rattle.block_cache_gen.proofs.ArmAssignments.{Goes, goes-leaves, set-goes}
@@ -26,7 +26,7 @@ walk-goes o f depth p s code shows loads stands goes = record {
 module _ (f : Setting) (mode : Mode) (secret : may_skip_loads mode ≡ false) where
   -- the code of an expression is walked in an arm
   pub expr-walked : (to : ℕ) (e : Tree) → TypedTree (context_of f.decls) e → HasPublicIndexes f e
-      → to + height_of e ≤ 17 → IsWalkedAsExpr f to e (expr_code f mode to e)
+      → to + height_of e ≤ room_of f → IsWalkedAsExpr f to e (expr_code f mode to e)
   expr-walked to e typed public low = λ o depth p s homes stands carries.
       let code = expr_code f mode to e in
       let leaves = expr-leaves o f homes depth mode secret e s to typed public low carries in
@@ -39,7 +39,7 @@ module _ (f : Setting) (mode : Mode) (secret : may_skip_loads mode ≡ false) wh
 
   -- the code of a guard is walked in an arm
   pub guard-walked : (to : ℕ) (t : Test) → TypedTest (context_of f.decls) t → TestHasPublicIndexes f t
-      → to + height_of t.left ≤ 17 → to + 1 + height_of t.right ≤ 17
+      → to + height_of t.left ≤ room_of f → to + 1 + height_of t.right ≤ room_of f
       → IsWalkedAsTest f to t (guard_code f mode to t)
   guard-walked to t typed public low next = λ o depth p s homes stands carries.
       let code = guard_code f mode to t in

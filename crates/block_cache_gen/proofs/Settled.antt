@@ -19,6 +19,7 @@ use Rattle.bank_alloc.specs.Prelude.{IsBankOf, scalar_bank, IsLaidOut}
 use Rattle.bank_alloc.proofs.Apart.{length_at}
 use Rattle.scratch_alloc.specs.Prelude.{Plan, IsSoundPlan, IsSoundByPin, IsSpread, pin_of_slot, no_decl, no_place}
 use Rattle.held_registers.specs.Prelude.{IsSoundHeld}
+use Rattle.held_registers.proofs.Sound.{nothing-sound}
 use Rattle.block_cache_gen.specs.Prelude.{Home, Pin, Setting, HasHomes, further_slots, IsScalarHome, IsInOneBlock, IsSpreadHome, IsResidentHome, IsArrayHome, pin_at, HomesApart, no_home, home_at, homes_at, setting_of, plan_of, IsFrame}
 use Rattle.block_cache_gen.proofs.FurtherSlots.{further_blocks-is, single_place, unpinned_place}
 use Rattle.block_cache_gen.specs.declared.frames.Frame.{Frame}
@@ -300,7 +301,7 @@ frame-setting f o frame profile = record {
   homes = refl;
   blocks = refl;
   pins = refl;
-  held = frame.held;
+  held = nothing-sound (source_of f.program.now).decls;
   profile = profile;
 }
 

@@ -1,5 +1,5 @@
 -- An array of an oblivious bank has no further slots, since no slot holds one of its blocks for the whole run.
-use Rattle.std.proofs.Common.{◌≡◌, ℕ, ◌<◌, ◌≤◌, Bool, List, [], length, get_or, Option, Some, None, refl, sym, ◌∙◌, subst, ⊎_elim, arith}
+use Rattle.std.proofs.Common.{◌≡◌, ℕ, ◌<◌, ◌≤◌, Bool, false, List, [], length, get_or, Option, Some, None, refl, sym, ◌∙◌, subst, ⊎_elim, arith}
 use Rattle.std.proofs.lemmas.Bool.{cases_lt}
 use Rattle.std.proofs.lemmas.List.{get_or_past}
 use Rattle.lt_isa.specs.declared.profiles.Profile.{Profile}
@@ -60,4 +60,4 @@ oblivious-single p plan profile reduces held sound x =
 
 pub frame-single : (f : Frame) → IsFrame f → ObliviousAreSingle (setting_of f)
 frame-single f is =
-    oblivious-single (source_of f.program.now) (plan_of f) f.profile.now f.reduces f.held.now is.plan
+    oblivious-single (source_of f.program.now) (plan_of f) f.profile.now false [] is.plan

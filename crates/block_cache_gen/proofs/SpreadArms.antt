@@ -17,7 +17,7 @@ use Rattle.stretches.proofs.ArmCode.{Walked}
 use Rattle.lt_checker.proofs.Singles.{IsKnown}
 use Rattle.word_selection.specs.Prelude.{selected_read}
 use Rattle.word_selection.proofs.ReadLaws.{walks-read}
-use Rattle.block_cache_gen.specs.Prelude.{further_slots, Pin, Setting, HasHomes, IsInOneBlock, IsSpreadHome, IsResidentHome, home_of, pin_at, slots_of_home, slot_of_word, words_a_block, read_by, fixed_word, CarriesInArm, word_gap, word_read, pinned_slot, no_loads, read_shows_by}
+use Rattle.block_cache_gen.specs.Prelude.{further_slots, Pin, Setting, HasHomes, IsInOneBlock, IsSpreadHome, IsResidentHome, home_of, pin_at, slots_of_home, slot_of_word, words_a_block, read_by, fixed_word, CarriesInArm, word_gap, word_read, pinned_slot, no_loads, read_shows_by, first_kept}
 use Rattle.block_cache_gen.proofs.HomeFacts.{block_words-is}
 use Rattle.block_cache_gen.proofs.WordSlots.{single-slot, word-pinned, slot-pinned}
 use Rattle.block_cache_gen.proofs.ArmInstructions.{sets-ldw}
@@ -84,7 +84,7 @@ module _ (o : Parts) (f : Setting) (homes : HasHomes o f) (x : List ℕ) (label 
           (word-bank s carries n within ∙ ap Some bank)
           ∙ sym (hidden_read o f homes h place bank)
 
-  module _ (depth : ℕ) (s : SymState) (carries : CarriesInArm f s) (to : ℕ) (small : to + 3 < 19)
+  module _ (depth : ℕ) (s : SymState) (carries : CarriesInArm f s) (to : ℕ) (small : to + 3 < first_kept f)
       (place : Option Value) (held : tree_held s to ≡ place) where
     -- a word of one slot
     slot-leaves : (k : ℕ) → IsKnown (slot_held s k)

@@ -17,7 +17,7 @@ use Rattle.word_selection.specs.Prelude.{selected_read, IsOutside}
 use Rattle.word_selection.proofs.ReadLaws.{passes-read}
 use Rattle.word_selection.proofs.WriteLaws.{passes-write}
 use Rattle.block_cache_gen.specs.declared.frames.Mode.TheVariants.{Public}
-use Rattle.block_cache_gen.specs.Prelude.{further_slots, Pin, Setting, HasHomes, IsResidentHome, home_of, pin_at, slots_of_home, slot_of_word, words_a_block, fixed_word, read_by, read_code, stored_among, stored_by, stored_code, Carries}
+use Rattle.block_cache_gen.specs.Prelude.{further_slots, Pin, Setting, HasHomes, IsResidentHome, home_of, pin_at, slots_of_home, slot_of_word, words_a_block, fixed_word, read_by, read_code, stored_among, stored_by, stored_code, Carries, first_kept}
 use Rattle.block_cache_gen.proofs.HomeFacts.{block_words-is}
 use Rattle.block_cache_gen.proofs.WordSlots.{word-pinned, slot-pinned, several}
 use Rattle.block_cache_gen.proofs.KeptRegisters.{SameBelow, same-itself, same-set}
@@ -36,17 +36,17 @@ stored bank value place first second = by (is_ram bank) refl
 
 -- Code that reads a word of a bank to a register is passed: the register has the label of such a word, registers below it
 -- and those that hold something for the whole run are as before.
-pub record PassesWord (o : Parts) (to bank p : ℕ) (code : List Instr) (k : Known) : Type 0 where
+pub record PassesWord (o : Parts) (f : Setting) (to bank p : ℕ) (code : List Instr) (k : Known) : Type 0 where
   pub last : Known
   pub goes : GoesOn o p code k last
   pub value : is_secret last to ≡ (not (is_ram bank) || is_secret k to)
-  pub same : SameBelow to k last
+  pub same : SameBelow f to k last
 
 -- code that stores a word is passed
-pub record PassesStore (o : Parts) (p : ℕ) (code : List Instr) (k : Known) : Type 0 where
+pub record PassesStore (o : Parts) (f : Setting) (p : ℕ) (code : List Instr) (k : Known) : Type 0 where
   pub last : Known
   pub goes : GoesOn o p code k last
-  pub same : SameBelow 1 k last
+  pub same : SameBelow f 1 k last
 
 module _ (o : Parts) (f : Setting) (homes : HasHomes o f) (x : List ℕ) (l : Label)
     (known : context_of f.decls x ≡ Some (l, Array)) (k : Known) (carries : Carries f k)
@@ -79,8 +79,8 @@ module _ (o : Parts) (f : Setting) (homes : HasHomes o f) (x : List ℕ) (l : La
 
   -- ---- a word is read
 
-  one-read : (to p slot : ℕ) → to < 19 → bank_known k slot ≡ Some (home_of f x).bank
-      → PassesWord o to (home_of f x).bank p (Ldw to slot to ∷ []) k
+  one-read : (to p slot : ℕ) → to < first_kept f → bank_known k slot ≡ Some (home_of f x).bank
+      → PassesWord o f to (home_of f x).bank p (Ldw to slot to ∷ []) k
   one-read to p slot low bank =
       let h = home_of f x in
       let label = not (is_ram h.bank) || is_secret k to in
@@ -90,11 +90,11 @@ module _ (o : Parts) (f : Setting) (homes : HasHomes o f) (x : List ℕ) (l : La
         last = last;
         goes = One p (Ldw to slot to) [] k last last (rules-ldw o p k to slot to h.bank bank) (NoMore (p + 1) last);
         value = secret-same k to label (omega (arith, sized, low));
-        same = same-set to k k to label (omega arith) low (same-itself to k);
+        same = same-set f to k k to label (omega arith) low (same-itself f to k);
       }
 
-  selected-read : (to p : ℕ) → to + 3 < 19 → (home_of f x).resident ≡ true
-      → PassesWord o to (home_of f x).bank p (selected_read (words_a_block f) (slots_of_home (home_of f x)) to) k
+  selected-read : (to p : ℕ) → to + 3 < first_kept f → (home_of f x).resident ≡ true
+      → PassesWord o f to (home_of f x).bank p (selected_read (words_a_block f) (slots_of_home (home_of f x)) to) k
   selected-read to p small resident =
       let h = home_of f x in
       let read = passes-read o to (words_a_block f) h.bank p (slots_of_home h) k (omega (arith, small)) (omega arith)
@@ -112,12 +112,12 @@ module _ (o : Parts) (f : Setting) (homes : HasHomes o f) (x : List ℕ) (l : La
         };
       }
 
-  pub read-passes : (to p : ℕ) (fixed : Option ℤ) → to + 3 < 19
-      → PassesWord o to (home_of f x).bank p (read_code f (home_of f x) fixed to) k
+  pub read-passes : (to p : ℕ) (fixed : Option ℤ) → to + 3 < first_kept f
+      → PassesWord o f to (home_of f x).bank p (read_code f (home_of f x) fixed to) k
   read-passes to p fixed small = by (home_of f x).resident refl fixed
     where
       by : (b : Bool) → (home_of f x).resident ≡ b → (fixed : Option ℤ)
-          → PassesWord o to (home_of f x).bank p (read_by b f (home_of f x) fixed to) k
+          → PassesWord o f to (home_of f x).bank p (read_by b f (home_of f x) fixed to) k
       by false is fixed = one-read to p (home_of f x).slot (omega (arith, small)) bound
       by true is (Some z) =
           let h = home_of f x in
@@ -129,7 +129,7 @@ module _ (o : Parts) (f : Setting) (homes : HasHomes o f) (x : List ℕ) (l : La
   module _ (value p : ℕ) (outer : IsOutside 1 4 value) (public : (home_of f x).bank ≡ 0 → is_secret k value ≡ false)
       (place : (home_of f x).bank ≡ 0 → is_secret k 1 ≡ false) where
     one-store : (slot : ℕ) → bank_known k slot ≡ Some (home_of f x).bank
-        → PassesStore o p (Stw value slot 1 ∷ []) k
+        → PassesStore o f p (Stw value slot 1 ∷ []) k
     one-store slot bank = record {
       last = k;
       goes
@@ -137,10 +137,10 @@ module _ (o : Parts) (f : Setting) (homes : HasHomes o f) (x : List ℕ) (l : La
           (rules-stw o p k value slot 1 (home_of f x).bank bank
           (stored (home_of f x).bank (is_secret k value) (is_secret k 1) public place))
           (NoMore (p + 1) k);
-      same = same-itself 1 k;
+      same = same-itself f 1 k;
     }
 
-    block-store : PassesStore o p (Stw value (home_of f x).slot 1 ∷ Stb (home_of f x).slot ∷ []) k
+    block-store : PassesStore o f p (Stw value (home_of f x).slot 1 ∷ Stb (home_of f x).slot ∷ []) k
     block-store =
         let h = home_of f x in
         record {
@@ -150,11 +150,11 @@ module _ (o : Parts) (f : Setting) (homes : HasHomes o f) (x : List ℕ) (l : La
               (rules-stw o p k value h.slot 1 h.bank bound
               (stored h.bank (is_secret k value) (is_secret k 1) public place))
               (One (p + 1) (Stb h.slot) [] k k k (rules-stb o (p + 1) k h.slot h.bank bound) (NoMore (p + 1 + 1) k));
-          same = same-itself 1 k;
+          same = same-itself f 1 k;
         }
 
     selected-store : (home_of f x).resident ≡ true → (more : List ℕ) → (further_slots (home_of f x)) ≡ more
-        → PassesStore o p (stored_among f Public (home_of f x).slot more value) k
+        → PassesStore o f p (stored_among f Public (home_of f x).slot more value) k
     selected-store resident [] is = one-store (home_of f x).slot bound
     selected-store resident (next ∷ rest) is =
         let h = home_of f x in
@@ -176,11 +176,11 @@ module _ (o : Parts) (f : Setting) (homes : HasHomes o f) (x : List ℕ) (l : La
           };
         }
 
-    pub store-passes : (fixed : Option ℤ) → PassesStore o p (stored_code f Public (home_of f x) fixed value) k
+    pub store-passes : (fixed : Option ℤ) → PassesStore o f p (stored_code f Public (home_of f x) fixed value) k
     store-passes fixed = by (home_of f x).resident refl fixed
       where
         by : (b : Bool) → (home_of f x).resident ≡ b → (fixed : Option ℤ)
-            → PassesStore o p (stored_by b f Public (home_of f x) fixed value) k
+            → PassesStore o f p (stored_by b f Public (home_of f x) fixed value) k
         by false is fixed = block-store
         by true is (Some z) =
             let h = home_of f x in

@@ -16,7 +16,7 @@ use Rattle.word_selection.proofs.ReadLaws.{runs-read}
 use Rattle.word_selection.proofs.WriteLaws.{runs-write, runs-write_back}
 use Rattle.block_cache_gen.specs.declared.frames.Mode.{Mode}
 use Rattle.block_cache_gen.specs.declared.frames.Mode.TheVariants.{Public, Real, Mirrored}
-use Rattle.block_cache_gen.specs.Prelude.{Home, Setting, HasHomes, IsSpreadHome, home_of, slots_of_home, slot_of_word, words_a_block, register_for, further_slots, store_code, effect_of, stored_among, read_by, stored_by, fixed_word, StandsFor, FitsHomes, HoldsBlock, Assigns, by_mode, words_written}
+use Rattle.block_cache_gen.specs.Prelude.{Home, Setting, HasHomes, IsSpreadHome, home_of, slots_of_home, slot_of_word, words_a_block, register_for, further_slots, store_code, effect_of, stored_among, read_by, stored_by, fixed_word, StandsFor, FitsHomes, HoldsBlock, Assigns, by_mode, words_written, first_kept}
 use Rattle.block_cache_gen.proofs.HomeFacts.{block_words-is}
 use Rattle.block_cache_gen.proofs.ResidentWrites.{put-done, runs-put}
 use Rattle.block_cache_gen.proofs.Stands.{stands-like}
@@ -25,10 +25,10 @@ use Rattle.word_selection.specs.SlotSteps as selection
 use Rattle.block_cache_gen.proofs.ResidentRuns as of_resident
 
 -- what a run leaves that reads a word: register `to` has it, and all else is as before, but for scratch registers
-pub record Reads (to : ℕ) (word : ℤ) (s t : State) : Type 0 where
+pub record Reads (f : Setting) (to : ℕ) (word : ℤ) (s t : State) : Type 0 where
   pub value : register t to ≡ word
   pub below : (r : ℕ) → r < to → register t r ≡ register s r
-  pub above : (r : ℕ) → 19 ≤ r → register t r ≡ register s r
+  pub above : (r : ℕ) → first_kept f ≤ r → register t r ≡ register s r
   pub slots : t.slots ≡ s.slots
   pub banks : t.banks ≡ s.banks
 
@@ -87,10 +87,10 @@ module _ (o : Parts) (fits : IsInRange o) (f : Setting) (homes : HasHomes o f) (
   held = of_resident.resident-held o fits f homes store store_fits x label shape known resident n within s stands
 
   -- the word whose number a register has is read
-  runs-selected_read : (to : ℕ) → to + 3 < 19 → register s to ≡ pos number
+  runs-selected_read : (to : ℕ) → to + 3 < first_kept f → register s to ≡ pos number
       → StandsAt o s.place (selected_read (words_a_block f) slots to)
       → RunsThrough o s (selected_read (words_a_block f) slots to) []
-      (Reads to (get_or (words_of_number store (variable_number f.decls x)) n (pos 0)) s)
+      (Reads f to (get_or (words_of_number store (variable_number f.decls x)) n (pos 0)) s)
   runs-selected_read to small has =
       let value = get_or (words_of_number store (variable_number f.decls x)) n (pos 0) in
       let k = slot_of_word f h number in
@@ -101,10 +101,10 @@ module _ (o : Parts) (fits : IsInRange o) (f : Setting) (homes : HasHomes o f) (
       ∙ stands.residents x label shape n known resident free within in
       subst
       (λ w. StandsAt o s.place (selected_read w slots to)
-      → RunsThrough o s (selected_read w slots to) [] (Reads to value s))
+      → RunsThrough o s (selected_read w slots to) [] (Reads f to value s))
       (block_words-is homes)
       (λ at.
-      runs-weaker s (selected_read (block_words o) slots to) [] [] (ReadsWord to _ s) (Reads to value s)
+      runs-weaker s (selected_read (block_words o) slots to) [] [] (ReadsWord to _ s) (Reads f to value s)
       (runs-read o fits to (omega (arith, small)) slots few s number h.slot shaped bound has inside at)
       refl
       (λ t shape reads. record {
@@ -162,14 +162,14 @@ module _ (o : Parts) (fits : IsInRange o) (f : Setting) (homes : HasHomes o f) (
     (known : context_of f.decls x ≡ Some (label, shape)) (resident : (home_of f x).resident ≡ true)
     (free : register_for f x ≡ None) (n : ℕ) (within : n < (home_of f x).length) (s : State) (shaped : IsShaped o s)
     (stands : StandsFor f s store) where
-  one : (to : ℕ) → to + 3 < 19 → register s to ≡ pos ((home_of f x).word + n)
+  one : (to : ℕ) → to + 3 < first_kept f → register s to ≡ pos ((home_of f x).word + n)
       → StandsAt o s.place (Ldw to (slot_of_word f (home_of f x) ((home_of f x).word + n)) to ∷ [])
       → RunsThrough o s (Ldw to (slot_of_word f (home_of f x) ((home_of f x).word + n)) to ∷ []) []
-      (Reads to (get_or (words_of_number store (variable_number f.decls x)) n (pos 0)) s)
+      (Reads f to (get_or (words_of_number store (variable_number f.decls x)) n (pos 0)) s)
   one to small has at =
       let value = get_or (words_of_number store (variable_number f.decls x)) n (pos 0) in
       runs-weaker s (Ldw to (slot_of_word f (home_of f x) ((home_of f x).word + n)) to ∷ []) [] [] (Sets s to value)
-      (Reads to value s)
+      (Reads f to value s)
       (of_resident.runs-read o fits f homes store store_fits x label shape known resident to n s shaped stands within free
       (omega (arith, small)) has at)
       refl
@@ -191,30 +191,30 @@ module _ (o : Parts) (fits : IsInRange o) (f : Setting) (homes : HasHomes o f) (
       is s shaped stands has place at
 
   -- a word of a resident variable is read, by its number in a register
-  pub runs-read_by : (to : ℕ) → to + 3 < 19 → register s to ≡ pos ((home_of f x).word + n)
+  pub runs-read_by : (to : ℕ) → to + 3 < first_kept f → register s to ≡ pos ((home_of f x).word + n)
       → (fixed : Option ℤ) → ((z : ℤ) → fixed ≡ Some z → fixed_word (home_of f x) z ≡ n)
       → StandsAt o s.place (read_by true f (home_of f x) fixed to)
       → RunsThrough o s (read_by true f (home_of f x) fixed to) []
-      (Reads to (get_or (words_of_number store (variable_number f.decls x)) n (pos 0)) s)
+      (Reads f to (get_or (words_of_number store (variable_number f.decls x)) n (pos 0)) s)
   runs-read_by to small has (Some z) is at =
       let h = home_of f x in
       let value = get_or (words_of_number store (variable_number f.decls x)) n (pos 0) in
       subst
       (λ m. StandsAt o s.place (Ldw to (slot_of_word f h (h.word + m)) to ∷ [])
-      → RunsThrough o s (Ldw to (slot_of_word f h (h.word + m)) to ∷ []) [] (Reads to value s))
+      → RunsThrough o s (Ldw to (slot_of_word f h (h.word + m)) to ∷ []) [] (Reads f to value s))
       (sym (is z refl)) (λ at. one to small has at) at
   runs-read_by to small has None is at = by (further_slots (home_of f x)) refl at
     where
       by : (more : List ℕ) → further_slots (home_of f x) ≡ more
           → StandsAt o s.place (selected_read (words_a_block f) ((home_of f x).slot ∷ more) to)
           → RunsThrough o s (selected_read (words_a_block f) ((home_of f x).slot ∷ more) to) []
-          (Reads to (get_or (words_of_number store (variable_number f.decls x)) n (pos 0)) s)
+          (Reads f to (get_or (words_of_number store (variable_number f.decls x)) n (pos 0)) s)
       by [] none at =
           let h = home_of f x in
           subst
           (λ k. StandsAt o s.place (Ldw to k to ∷ [])
           → RunsThrough o s (Ldw to k to ∷ []) []
-          (Reads to (get_or (words_of_number store (variable_number f.decls x)) n (pos 0)) s))
+          (Reads f to (get_or (words_of_number store (variable_number f.decls x)) n (pos 0)) s))
           (single-slot h.slot (further_slots h) ((h.word + n) / words_a_block f) none) (λ at. one to small has at) at
       by (next ∷ rest) some at =
           runs-selected_read o fits f homes store store_fits x label shape known resident free next rest some n within s

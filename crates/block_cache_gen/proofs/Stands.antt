@@ -1,5 +1,5 @@
--- Whether a state represents a store depends only on its slots, its banks and the registers from 19 on, and it still
--- does if a block of an array is loaded.
+-- Whether a state represents a store depends only on its slots, its banks and the registers that no expression
+-- uses, and it still does if a block of an array is loaded.
 use Rattle.std.proofs.Common.{◌≡◌, ◌≢◌, ℕ, ◌+◌, ◌/◌, ◌%◌, ◌<◌, ◌≤◌, true, false, ℤ, pos, List, length, get_or, Some, refl, sym, ap, ◌∙◌, subst, ⊎_elim, arith, pow_pos}
 use Rattle.std.proofs.lemmas.Bool.{cases_eq}
 use Rattle.std.proofs.lemmas.List.{get_or-set_same, get_or-set_other}
@@ -13,14 +13,14 @@ use Rattle.scratch_alloc.specs.Prelude.{pin_to}
 use Rattle.scratch_alloc.proofs.Serving.{serves-within}
 use Rattle.stretches.specs.Prelude.{Sets}
 use Rattle.held_registers.specs.Prelude.{held_at, word_held}
-use Rattle.held_registers.proofs.Found.{held-high}
-use Rattle.block_cache_gen.specs.Prelude.{Held, Setting, HasHomes, Serves, home_of, slot_of_word, words_a_block, start_of_home, StandsFor, HoldsBlock, HoldsBank, IsBlockOf}
+use Rattle.block_cache_gen.specs.Prelude.{Held, Setting, HasHomes, Serves, home_of, slot_of_word, words_a_block, start_of_home, StandsFor, HoldsBlock, HoldsBank, IsBlockOf, first_kept}
+use Rattle.block_cache_gen.proofs.HeldLabels.{held-above}
 use Rattle.block_cache_gen.proofs.HomeFacts.{block_words-is, serves-same, pinned-apart}
 use Rattle.block_cache_gen.proofs.WordSlots.{word-pinned}
 
 -- by these
 pub stands-like : (f : Setting) (s t : State) (store : Store) → t.slots ≡ s.slots → t.banks ≡ s.banks
-    → ((r : ℕ) → 19 ≤ r → register t r ≡ register s r) → StandsFor f s store → StandsFor f t store
+    → ((r : ℕ) → first_kept f ≤ r → register t r ≡ register s r) → StandsFor f s store → StandsFor f t store
 stands-like f s t store slots banks kept stands =
     subst (λ l. StandsFor f (record t { slots = l }) store) (sym slots)
     (subst (λ b. StandsFor f (record t { slots = s.slots; banks = b }) store) (sym banks) moved)
@@ -32,11 +32,11 @@ stands-like f s t store slots banks kept stands =
       arrays = stands.arrays;
       bound = stands.bound;
       current = stands.current;
-      held = λ r h at. kept r (held-high f.held r h at) ∙ stands.held r h at;
+      held = λ r h at. kept r (held-above f r h at) ∙ stands.held r h at;
     }
 
 -- where a register of an expression was set
-pub stands-set : {f : Setting} {store : Store} {to : ℕ} {word : ℤ} {s t : State} → Sets s to word t → to < 19
+pub stands-set : {f : Setting} {store : Store} {to : ℕ} {word : ℤ} {s t : State} → Sets s to word t → to < first_kept f
     → StandsFor f s store → StandsFor f t store
 stands-set {f = f} {store = store} {s = s} {t = t} sets low stands =
     stands-like f s t store sets.slots sets.banks
@@ -62,7 +62,7 @@ module _ (o : Parts) (f : Setting) (homes : HasHomes o f) (s : State) (store : S
     (bound_here : slot t (home_of f x).slot ≡ Bound (home_of f x).bank a words)
     (unmoved : (j : ℕ) → j ≢ (home_of f x).slot → slot t j ≡ slot s j)
     (here : words ≡ block_at t (home_of f x).bank a)
-    (kept : (r : ℕ) → 19 ≤ r → register t r ≡ register s r) where
+    (kept : (r : ℕ) → first_kept f ≤ r → register t r ≡ register s r) where
   pub stands-bound : (after : Store)
       → ((y : List ℕ) (label' : Label) (shape : Shape) (i : ℕ) → context_of f.decls y ≡ Some (label', shape)
       → (home_of f y).resident ≡ true
@@ -95,7 +95,7 @@ module _ (o : Parts) (f : Setting) (homes : HasHomes o f) (s : State) (store : S
             (unmoved k (pinned-apart f k h.slot (pin_to g.bank (g.block + n / words_a_block f)) pinned home.unpinned))
             ∙ stands.residents y label' shape i known' resident free within
             ∙ residents y label' shape i known' resident;
-        held = λ r h at. kept r (held-high f.held r h at) ∙ stands.held r h at ∙ words_same r h at;
+        held = λ r h at. kept r (held-above f r h at) ∙ stands.held r h at ∙ words_same r h at;
         arrays = arrays;
         bound = λ y label' known' turn within.
             let g = home_of f y in

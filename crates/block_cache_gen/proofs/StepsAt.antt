@@ -6,7 +6,7 @@ use Rattle.lt_isa.specs.declared.instructions.Instr.{Instr}
 use Rattle.lt_isa.specs.declared.instructions.Instr.TheVariants.{Alu}
 use Rattle.strength_reduction.specs.Prelude.{steps_by_number, Step, Constant, Compute, Replaces, code_of, instruction_of}
 use Rattle.strength_reduction.proofs.Replacing.{steps-replace}
-use Rattle.src_tree.specs.Prelude.{tree_weight, Tree, Number, Variable, Element, Operation}
+use Rattle.src_tree.specs.Prelude.{tree_weight, Tree, Number}
 use Rattle.block_cache_gen.specs.Prelude.{Setting, may_step, steps_at, operation_code, stored_words}
 use Rattle.block_cache_gen.specs.Codes.{is_product}
 

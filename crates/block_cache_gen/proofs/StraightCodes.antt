@@ -6,7 +6,7 @@ use Rattle.std.proofs.lemmas.Bool.{and_parts, not-true}
 use Rattle.gr_word.specs.declared.operations.Op.{Op}
 use Rattle.lt_isa.specs.declared.instructions.Instr.{Instr}
 use Rattle.lt_isa.specs.declared.instructions.Instr.TheVariants.{Alu}
-use Rattle.src_tree.specs.Prelude.{context_of, label_of, Tree, Number, Variable, Element, Operation}
+use Rattle.src_tree.specs.Prelude.{context_of, label_of, Tree, Variable, Operation}
 use Rattle.strength_reduction.specs.Prelude.{Step}
 use Rattle.block_cache_gen.specs.declared.frames.Mode.{Mode}
 use Rattle.block_cache_gen.specs.declared.frames.Mode.TheVariants.{Public}

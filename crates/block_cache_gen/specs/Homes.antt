@@ -1,6 +1,6 @@
 -- What code is made for: a program's variables with their homes, each a place in a bank and the slot of the scratchpad
 -- that serves it. (This project's layout of compiled code.)
-use Rattle.std.specs.Prelude.{◌≡◌, ◌↔◌, ℕ, ◌+◌, ◌*◌, ◌/◌, ◌^◌, ◌<◌, ◌≤◌, ◌⊎◌, ◌≢◌, Bool, true, false, List, [], ◌∷◌, length, take, slice_index_or, Option, Some, None}
+use Rattle.std.specs.Prelude.{◌≡◌, ◌↔◌, ℕ, ◌+◌, ◌-◌, ◌*◌, ◌/◌, ◌^◌, ◌<◌, ◌≤◌, ◌⊎◌, ◌≢◌, Bool, true, false, List, [], ◌∷◌, length, take, slice_index_or, Option, Some, None}
 use Rattle.gr_base.specs.Lists.{Within}
 use Rattle.gr_word.specs.declared.variables.Label.{Label}
 use Rattle.gr_word.specs.declared.variables.Label.TheVariants.{Public, Secret}
@@ -80,6 +80,16 @@ pin_at f slot = slice_index_or f.pins slot None
 -- the register that holds a scalar for the whole run, None if none does
 abbrev pub register_for : Setting → List ℕ → Option ℕ
 register_for f x = register_of_scalar f.held (variable_number f.decls x)
+
+-- The first register that the code of expressions leaves as it is: register 19 if registers from there on hold
+-- something for the whole run, and register 28 if none does. Code that leaves the value of an expression in a register
+-- uses registers from this one on, two more than the expression's height. So the sum of that register's number and the
+-- height may be as great as the room.
+abbrev pub first_kept : Setting → ℕ
+first_kept f = 19 + (9 - 9 * length f.held)
+
+abbrev pub room_of : Setting → ℕ
+room_of f = 17 + (9 - 9 * length f.held)
 
 -- the label that a register has for the whole run, None if it holds nothing for the whole run
 abbrev pub label_by : List Decl → Option Held → Option Label

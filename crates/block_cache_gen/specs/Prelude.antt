@@ -15,7 +15,7 @@ unfoldable pub use Rattle.block_cache_gen.specs.Emitted.{EmitsAccess, EmitsExpr,
 pub use Rattle.block_cache_gen.specs.Extends.{Extends}
 unfoldable pub use Rattle.block_cache_gen.specs.HeldCodes.{HasSecretSlot, begin_code, each_held, end_code, held_beginning, held_ending, home_numbered}
 pub use Rattle.block_cache_gen.specs.Homes.{EncryptedSlot, HasHomes, Held, Home, IsArrayHome, IsInOneBlock, IsPin, IsResidentHome, IsScalarHome, IsSpreadHome, ObliviousSlot, Pin, PlainSlot, Serves, Setting}
-unfoldable pub use Rattle.block_cache_gen.specs.Homes.{HomesApart, blocks_set, further_slots, held_label, home_of, label_by, no_home, pin_at, pin_of, ranged, register_for, slot_of_word, slots_of_home, start_of_home, words_a_block}
+unfoldable pub use Rattle.block_cache_gen.specs.Homes.{HomesApart, blocks_set, first_kept, further_slots, held_label, home_of, label_by, no_home, pin_at, pin_of, ranged, register_for, room_of, slot_of_word, slots_of_home, start_of_home, words_a_block}
 unfoldable pub use Rattle.block_cache_gen.specs.InstructionsOf.{IsCodeOfSet}
 pub use Rattle.block_cache_gen.specs.LeavesWord.{LeavesBoth, LeavesWord}
 unfoldable pub use Rattle.block_cache_gen.specs.Notes.{access_mask, all_marked, base_mask, claim_by, claimed_where_used, compared_notes, expr_notes, guard_notes, index_notes, is_public, is_used, load_notes, loaded_notes, loading_code, marked_by, mask_to, note_of, operand_mask, operation_notes, scalar_set_notes, set_notes, slot_claims, straight_notes, unmarked}
@@ -29,8 +29,8 @@ pub use Rattle.block_cache_gen.specs.RunsOf.{BeginsCode, Evaluates, EvaluatesTes
 pub use Rattle.block_cache_gen.specs.SecretCode.{ArmWalk}
 unfoldable pub use Rattle.block_cache_gen.specs.SecretCode.{IsWalkedAsExpr, IsWalkedAsSet, IsWalkedAsTest}
 unfoldable pub use Rattle.block_cache_gen.specs.ServedBlocks.{block_served, first_blocks, pin_in, pin_or}
-pub use Rattle.block_cache_gen.specs.Settings.{IsFrame}
-unfoldable pub use Rattle.block_cache_gen.specs.Settings.{four_slots, further_blocks, home_at, homes_at, is_pin_to, is_pinned, plan_of, setting_for, setting_of, slot_from}
+pub use Rattle.block_cache_gen.specs.Settings.{IsFrame, IsSetUp}
+unfoldable pub use Rattle.block_cache_gen.specs.Settings.{IsFastFrame, fast_plan_of, fast_setting, four_slots, further_blocks, home_at, homes_at, is_pin_to, is_pinned, plan_of, setting_for, setting_of, slot_from}
 pub use Rattle.block_cache_gen.specs.StandsFor.{FitsHomes, HoldsBank, HoldsBlock, IsBlockOf, StandsFor}
 unfoldable pub use Rattle.block_cache_gen.specs.StoredWords.{counts_as_store, is_held_register, is_store, is_write, mode_writes, set_stores, stored_words, stores_by, stores_in, written_words}
 unfoldable pub use Rattle.block_cache_gen.specs.TreeWords.{HasWords, SetHasWords, TestHasWords}

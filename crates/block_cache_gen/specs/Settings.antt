@@ -8,7 +8,8 @@ use Rattle.src_tree.specs.Typing.{IsTyped}
 use Rattle.src_tree.specs.Limits.{IsWithinLimits}
 use Rattle.bank_alloc.specs.declared.places.Place.{Place}
 use Rattle.bank_alloc.specs.Places.{blocks_for}
-use Rattle.scratch_alloc.specs.Plans.{Plan, IsSoundPlan, plan_from}
+use Rattle.scratch_alloc.specs.Plans.{Plan, IsSoundPlan, plan_with, scalar_pins}
+use Rattle.block_cache_gen.specs.declared.frames.FastFrame.{FastFrame}
 use Rattle.block_cache_gen.specs.declared.frames.Frame.{Frame}
 use Rattle.held_registers.specs.Held.{IsSoundHeld}
 use Rattle.scalar_ranges.specs.Known.{nothing_known}
@@ -72,19 +73,36 @@ setting_for p plan profile reduces held = record {
   ranges = nothing_known (length p.decls);
 }
 
--- the plan of a frame
+-- The plan of a frame, and what its code is made for: slots hold only the blocks of the scalars for the whole run,
+-- registers hold nothing, and no operation is replaced.
 abbrev pub plan_of : Frame → Plan
-plan_of f = plan_from f.places.now f.slots.now
+plan_of f = plan_with f.places.now f.slots.now scalar_pins
 
--- what the code of a frame is made for
 abbrev pub setting_of : Frame → Setting
-setting_of f = setting_for (source_of f.program.now) (plan_of f) f.profile.now f.reduces f.held.now
+setting_of f = setting_for (source_of f.program.now) (plan_of f) f.profile.now false []
+
+-- the same of a frame with what `--fast` adds
+abbrev pub fast_plan_of : FastFrame → Plan
+fast_plan_of f = plan_with f.places.now f.slots.now f.pins
+
+abbrev pub fast_setting : FastFrame → Setting
+fast_setting f = setting_for (source_of f.program.now) (fast_plan_of f) f.profile.now f.reduces f.held.now
 
 -- A program that is well typed and within the limits, with a plan of memory that is sound for it where a block has as
--- many words as the profile says, a profile in its ranges, and registers that hold what is sound for the program.
+-- many words as the profile says, and a profile in its ranges.
 pub record IsFrame (f : Frame) : Type 0 where
   pub typed : IsTyped (source_of f.program.now)
   pub within : IsWithinLimits (source_of f.program.now)
   pub plan : IsSoundPlan (source_of f.program.now) f.profile.now.block_log (plan_of f)
   pub profile : ProfileFits f.profile.now
-  pub held : IsSoundHeld (source_of f.program.now).decls f.held.now
+
+-- the same with registers that hold what is sound for the program
+pub record IsSetUp (p : Source) (memory : Plan) (machine : Profile) (registers : List Held) : Type 0 where
+  pub typed : IsTyped p
+  pub within : IsWithinLimits p
+  pub plan : IsSoundPlan p machine.block_log memory
+  pub profile : ProfileFits machine
+  pub held : IsSoundHeld p.decls registers
+
+abbrev pub IsFastFrame : FastFrame → Type 0
+IsFastFrame f = IsSetUp (source_of f.program.now) (fast_plan_of f) f.profile.now f.held.now

@@ -51,7 +51,7 @@ pub(crate) fn marked_by(label: Label, mask: u32, register: u8) -> u32
 
 // The mask behind the load of an access, of which three registers are public.
 fn access_mask(mask: u32, to: u8) -> u32
-    requires { to + 2 < 19 }
+    requires { to + 2 < 28 }
     ensures { result ≡ access_mask mask to }
 {
     unmarked(unmarked(unmarked(mask, to), to + 1), to + 2)
@@ -229,7 +229,7 @@ pub(crate) fn put_scalar(out: &mut CodeBuf, scalar: Variable, to: u8) -> PutResu
 // block in the next register.
 fn fixed_code(emitter: &Emitter<'_, '_, '_>, array: Variable, index: i64, to: u8) -> [Instr; 2]
     requires length { 1 ≤ array.place.length }
-    requires registers { to + 2 < 19 }
+    requires registers { to + 2 < 28 }
     ensures { result ≡ fixed_code emitter.now.profile.block_log (home_in array) to index }
 {
     let word = fixed_word(array, index);
@@ -275,7 +275,7 @@ pub(crate) fn has_offset(array: Variable) -> bool
 
 // The number of a resident array's first word is added to that of the word that an index names.
 fn put_offset(emitter: &Emitter<'_, '_, '_>, out: &mut CodeBuf, index: Indexed) -> PutResult
-    requires registers { index.to + 2 < 19 }
+    requires registers { index.to + 2 < 28 }
     ensures appended { OnOk result (Appended out.old out.new (offset_code emitter.now (home_in index.array) index.to
         (numbered_register index.numbering index.to index.from)) no_notes) }
     ensures grows { CodeGrows out.old out.new }
@@ -291,7 +291,7 @@ fn put_offset(emitter: &Emitter<'_, '_, '_>, out: &mut CodeBuf, index: Indexed) 
 // Appends the load of the block that the next register names into the array's slot: in public code only where it isn't
 // there, with a note. The only error is want of memory.
 fn put_load(emitter: &Emitter<'_, '_, '_>, out: &mut CodeBuf, access: Access) -> PutResult
-    requires registers { access.to + 2 < 19 }
+    requires registers { access.to + 2 < 28 }
     requires room { length out.old.code.items + 3 < 2 ^ 32 }
     ensures appended { OnOk result
         (EmitsLoad emitter.now access.mode (home_in access.array) access.mask access.to out.old out.new) }
@@ -324,7 +324,7 @@ fn put_load(emitter: &Emitter<'_, '_, '_>, out: &mut CodeBuf, access: Access) ->
 
 // The number of the block of the word that a register names, in the next register.
 fn put_block(emitter: &Emitter<'_, '_, '_>, out: &mut CodeBuf, array: Variable, to: u8) -> PutResult
-    requires registers { to + 2 < 19 }
+    requires registers { to + 2 < 28 }
     ensures appended { OnOk result
         (Appended out.old out.new (shift_code emitter.now (home_in array) to) no_notes) }
     ensures grows { CodeGrows out.old out.new }
@@ -357,7 +357,7 @@ pub(crate) fn put_fixed_access(
     index: i64,
 ) -> PutResult
     requires length { 1 ≤ access.array.place.length }
-    requires registers { access.to + 2 < 19 }
+    requires registers { access.to + 2 < 28 }
     requires room { length out.old.code.items + 6 < 2 ^ 32 }
     ensures appended { OnOk result
         (EmitsFixed emitter.now access.mode (home_in access.array) access.mask access.to index out.old out.new) }
@@ -380,7 +380,7 @@ pub(crate) fn put_found_access<'a>(
     index: &'a Expr,
     from: u8,
 ) -> PutResult
-    requires registers { access.to + 2 < 19 }
+    requires registers { access.to + 2 < 28 }
     requires from { from ≡ operand_register (index_operand emitter.now
         (numbering emitter.now access.mode (home_in access.array) (expr_tree index.now)) (home_in access.array)
         (expr_tree index.now)) access.to }

@@ -40,7 +40,7 @@ pub fn emit_expr<'a>(
     requires frame { IsFrame f.now }
     requires typed { TypedTree (context_of f.now.program.now.decls.items) (expr_tree e.now) }
     requires indexes { HasPublicIndexes (setting_of f.now) (expr_tree e.now) }
-    requires registers { to + height_of (expr_tree e.now) ≤ 17 }
+    requires registers { to + height_of (expr_tree e.now) ≤ 26 }
     requires room { length out.old.code.items + 120 * tree_weight (expr_tree e.now) ≤ most_instructions }
     ensures runs { OnOk result (Evaluates (setting_of f.now) mode to (expr_tree e.now) (code_behind out.old out.new)) }
     ensures passes { OnOk result (mode ≡ modes.Public → IsPassedAsExpr (setting_of f.now) to (expr_tree e.now)
@@ -54,7 +54,8 @@ pub fn emit_expr<'a>(
         (Extends (length f.now.places.now.blocks.items) mode (tree_weight (expr_tree e.now)) out.old out.new) }
     ensures grows { CodeGrows out.old out.new }
 {
-    let prepared = Prepared::new(alloc, f)?;
+    let frame = f.plain();
+    let prepared = Prepared::new(alloc, &frame)?;
     let emitter = Emitter::new(&prepared);
     put_expr(&emitter, out, e, to, mode, emitter.base_mask())
 }
@@ -73,8 +74,8 @@ pub fn emit_guard<'a>(
     requires frame { IsFrame f.now }
     requires typed { TypedTest (context_of f.now.program.now.decls.items) (test_of g.now) }
     requires indexes { TestHasPublicIndexes (setting_of f.now) (test_of g.now) }
-    requires left { to + height_of (expr_tree g.now.left) ≤ 17 }
-    requires right { to + 1 + height_of (expr_tree g.now.right) ≤ 17 }
+    requires left { to + height_of (expr_tree g.now.left) ≤ 26 }
+    requires right { to + 1 + height_of (expr_tree g.now.right) ≤ 26 }
     requires room { length out.old.code.items + 120 * test_weight (test_of g.now) ≤ most_instructions }
     ensures runs { OnOk result
         (EvaluatesTest (setting_of f.now) mode to (test_of g.now) (code_behind out.old out.new)) }
@@ -88,7 +89,8 @@ pub fn emit_guard<'a>(
         (Extends (length f.now.places.now.blocks.items) mode (test_weight (test_of g.now)) out.old out.new) }
     ensures grows { CodeGrows out.old out.new }
 {
-    let prepared = Prepared::new(alloc, f)?;
+    let frame = f.plain();
+    let prepared = Prepared::new(alloc, &frame)?;
     let emitter = Emitter::new(&prepared);
     put_guard(&emitter, out, g, to, mode)
 }
@@ -135,7 +137,8 @@ pub fn emit_set<'a>(
         out.old out.new) }
     ensures grows { CodeGrows out.old out.new }
 {
-    let prepared = Prepared::new(alloc, f)?;
+    let frame = f.plain();
+    let prepared = Prepared::new(alloc, &frame)?;
     let emitter = Emitter::new(&prepared);
     put_set(&emitter, out, s, mode)
 }

@@ -51,7 +51,7 @@ fn put_selected_read(
     array: Variable,
     to: u8,
 ) -> PutResult
-    requires registers { to + 3 < 19 }
+    requires registers { to + 3 < 28 }
     requires few { array.further ≤ 4 }
     ensures appended { OnOk result (Appended out.old out.new
         (selected_read (2 ^ emitter.now.profile.block_log) (slots_of_home (home_in array)) to) no_notes) }
@@ -73,7 +73,7 @@ pub(crate) fn put_element<'a>(
     to: u8,
 ) -> PutResult
     requires length { 1 ≤ array.place.length }
-    requires registers { to + 3 < 19 }
+    requires registers { to + 3 < 28 }
     requires few { array.further ≤ 4 }
     ensures appended { OnOk result (Appended out.old out.new
         (read_code emitter.now (home_in array) (fixed_index (home_in array) (expr_tree index.now)) to) no_notes) }

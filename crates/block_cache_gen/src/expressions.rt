@@ -4,6 +4,7 @@ ghost use Rattle.lt_isa.specs.Prelude.{most_instructions};
 ghost use Rattle.block_cache_gen.specs.Emitted.{EmitsAccess, EmitsExpr, EmitsOperand, EmitsOperation, CodeGrows};
 ghost use Rattle.strength_reduction.specs.Prelude.{code_of};
 ghost use Rattle.block_cache_gen.specs.Codes.{steps_at};
+ghost use Rattle.block_cache_gen.specs.Homes.{room_of};
 ghost use Rattle.block_cache_gen.specs.TreeWords.{HasWords};
 ghost use Rattle.block_cache_gen.specs.Variables.{home_in};
 
@@ -30,7 +31,7 @@ pub(crate) fn put_expr<'a>(
     mask: u32,
 ) -> PutResult
     requires typed { TypedTree (context_of emitter.now.decls) (expr_tree e.now) }
-    requires registers { to + height_of (expr_tree e.now) ≤ 17 }
+    requires registers { to + height_of (expr_tree e.now) ≤ room_of emitter.now }
     requires room { length out.old.code.items + 120 * tree_weight (expr_tree e.now) ≤ most_instructions }
     ensures emitted { OnOk result (EmitsExpr emitter.now mode mask to (expr_tree e.now) out.old out.new) }
     ensures words { OnOk result (HasWords (expr_tree e.now)) }
@@ -78,7 +79,7 @@ pub(crate) fn put_operand<'a>(
 ) -> PutResult
     requires typed { TypedTree (context_of emitter.now.decls) (expr_tree e.now) }
     requires known { OnSome held (HasWords (expr_tree e.now)) }
-    requires registers { to + height_of (expr_tree e.now) ≤ 17 }
+    requires registers { to + height_of (expr_tree e.now) ≤ room_of emitter.now }
     requires room { length out.old.code.items + 120 * tree_weight (expr_tree e.now) ≤ most_instructions }
     ensures emitted { OnOk result (EmitsOperand emitter.now mode mask to held (expr_tree e.now) out.old out.new) }
     ensures words { OnOk result (HasWords (expr_tree e.now)) }
@@ -107,7 +108,7 @@ pub(crate) fn put_operation<'a>(
     requires typed { TypedTree (context_of emitter.now.decls) (expr_tree right.now) }
     requires steps { option_map vec_items steps ≡ option_map (code_of to) (steps_at emitter.now op (expr_tree right.now)) }
     requires known { OnSome steps (HasWords (expr_tree right.now)) }
-    requires registers { to + (height_of (expr_tree right.now) + 1) ≤ 17 }
+    requires registers { to + (height_of (expr_tree right.now) + 1) ≤ room_of emitter.now }
     requires room { length out.old.code.items + 120 * (1 + tree_weight (expr_tree right.now)) ≤ most_instructions }
     ensures emitted { OnOk result
         (EmitsOperation emitter.now mode mask to left op (expr_tree right.now) out.old out.new) }
@@ -140,8 +141,8 @@ pub(crate) fn put_access<'a>(
 ) -> PutResult
     requires length { 1 ≤ access.array.place.length }
     requires typed { TypedTree (context_of emitter.now.decls) (expr_tree index.now) }
-    requires registers { access.to ≤ 16 }
-    requires height { access.to + height_of (expr_tree index.now) ≤ 17 }
+    requires registers { access.to ≤ 25 }
+    requires height { access.to + height_of (expr_tree index.now) ≤ room_of emitter.now }
     requires room { length out.old.code.items + 120 * (1 + tree_weight (expr_tree index.now)) ≤ most_instructions }
     ensures emitted { OnOk result (EmitsAccess emitter.now access.mode (home_in access.array) access.mask access.to
         (expr_tree index.now) out.old out.new) }

@@ -9,7 +9,7 @@ use gr_base::Memory;
 use gr_word::Cmp;
 use held_registers::Held;
 use lt_isa::{Instr, Note, Profile};
-use scratch_alloc::{Pin, SlotPlan};
+use scratch_alloc::{Pin, SlotPlan, scalar_pins};
 use src_tree::Program;
 use std::alloc::Global;
 
@@ -19,9 +19,21 @@ pub struct Frame<'a> {
     pub program: &'a Program,
     /// Where its variables are stored, as `bank_alloc::banks` returns it for the program and the profile's block size.
     pub places: &'a Places,
-    /// Which slot serves each variable, and which blocks slots hold for the whole run, as `scratch_alloc::slots` returns
-    /// it for these places.
+    /// Which slot serves each variable, as `scratch_alloc::slots` returns it for these places.
     pub slots: &'a SlotPlan,
+    pub profile: &'a Profile,
+}
+
+/// A frame with what `--fast` adds to it.
+#[derive(Clone, Copy, Debug)]
+pub struct FastFrame<'a> {
+    pub program: &'a Program,
+    /// Where its variables are stored.
+    pub places: &'a Places,
+    /// Which slot serves each variable.
+    pub slots: &'a SlotPlan,
+    /// The block that each slot holds for the whole run, from slot 0 on. Every other slot holds several blocks in turn.
+    pub pins: [Option<Pin>; 8],
     pub profile: &'a Profile,
     /// Whether operations by numbers are replaced by steps without products, quotients and remainders, and public code
     /// skips the remainder of a public index that is below its array's length.
@@ -31,13 +43,22 @@ pub struct Frame<'a> {
 }
 
 impl<'a> Frame<'a> {
-    ghost use Rattle.block_cache_gen.specs.Settings.{setting_of};
+    ghost use Rattle.block_cache_gen.specs.Settings.{IsFastFrame, IsFrame, fast_setting, setting_of};
 
-    /// The block that each slot holds for the whole run, from slot 0 on. Every other slot holds several blocks in turn.
-    pub fn pins(&self) -> [Option<Pin>; 8]
-        ensures { result ≡ (setting_of self.now).pins }
+    /// The same frame without anything that `--fast` adds.
+    pub fn plain(&self) -> FastFrame<'a>
+        ensures setting { fast_setting result ≡ setting_of self.now }
+        ensures frame { IsFrame self.now → IsFastFrame result }
     {
-        self.slots.pins
+        FastFrame {
+            program: self.program,
+            places: self.places,
+            slots: self.slots,
+            pins: scalar_pins(),
+            profile: self.profile,
+            reduces: false,
+            held: &[],
+        }
     }
 }
 

@@ -74,7 +74,7 @@ pub(crate) fn put_numbered(
     out: &mut CodeBuf,
     index: Indexed,
 ) -> PutResult
-    requires registers { index.to + 2 < 19 }
+    requires registers { index.to + 2 < 28 }
     requires room { length out.old.code.items + 6 < 2 ^ 32 }
     ensures appended { OnOk result
         (Appended out.old out.new (code_of_index emitter.now index) (notes_of_index emitter.now index)) }
@@ -96,7 +96,7 @@ fn lowered_length(array: Variable) -> i64
 
 // Appends the same, where the remainder is taken only of an index that isn't below the length, and a note after it.
 fn put_compared(emitter: &Emitter<'_, '_, '_>, out: &mut CodeBuf, index: Indexed) -> PutResult
-    requires registers { index.to + 2 < 19 }
+    requires registers { index.to + 2 < 28 }
     requires room { length out.old.code.items + 6 < 2 ^ 32 }
     ensures appended { OnOk result (Appended out.old out.new (compared_code (home_in index.array) index.to)
         (λ place. note_of emitter.now (unmarked index.mask index.to) (place + 6) ∷ [])) }
@@ -212,7 +212,7 @@ fn put_reduced(
     to: u8,
     from: u8,
 ) -> PutResult
-    requires registers { to + 2 < 19 }
+    requires registers { to + 2 < 28 }
     ensures appended { OnOk result (Appended out.old out.new (reduced_code emitter.now (home_in array) to from) no_notes) }
     ensures grows { CodeGrows out.old out.new }
 {

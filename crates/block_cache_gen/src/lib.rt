@@ -5,8 +5,9 @@
 //! has the frame's layout ([`home_laws`]), the code leaves the value, the sides or the store that it means, within its
 //! greatest costs, and shows the accesses of `specs/Accesses` (`runs`). The check passes it in public code (`passes`)
 //! and walks it in an arm (`walked`), where it shows the same in every state. It is short and in its ranges
-//! (`extends`). A [`Prepared`] is a [`Frame`] made ready for many such calls, and an [`Emitter`] has with it what is known of
-//! scalars at the place of the code. [`pair_count`] is the number of first statements of two parts that show the same
+//! (`extends`). These calls take a [`Frame`]. A [`FastFrame`] has what `--fast` adds to it. A [`Prepared`] is a
+//! [`FastFrame`] made ready for many calls, and an [`Emitter`] has with it what is known of scalars at the place of the
+//! code. [`pair_count`] is the number of first statements of two parts that show the same
 //! ([`pair_laws`]).
 #![tactic(auto)]
 
@@ -29,7 +30,7 @@ mod variables;
 pub use alike::pair_count;
 pub use calls::{emit_expr, emit_guard, emit_set};
 pub use emitter::{Emitter, label_of};
-pub use frames::{CodeBuf, Frame, Mode};
+pub use frames::{CodeBuf, FastFrame, Frame, Mode};
 pub use indexes::reducer_at;
 pub use laws::{home_laws, pair_laws, twin_laws};
 pub use prepared::Prepared;

@@ -4,10 +4,10 @@ ghost use Rattle.src_tree.specs.Prelude.{context_of, label_at};
 ghost use Rattle.held_registers.specs.Prelude.{held_at, register_of_number};
 ghost use Rattle.block_cache_gen.specs.Homes.{Pin, label_by};
 ghost use Rattle.block_cache_gen.specs.Notes.{is_public, mask_to};
-ghost use Rattle.block_cache_gen.specs.Settings.{IsFrame, homes_at, setting_of};
+ghost use Rattle.block_cache_gen.specs.Settings.{IsFastFrame, homes_at, fast_setting};
 
 use crate::accesses::unmarked;
-use crate::frames::Frame;
+use crate::frames::FastFrame;
 use crate::pins::{claims_in, pin_at, pin_in, pin_or};
 use crate::variables::{Variable, Variables, gather, variable_at};
 use bank_alloc::Place;
@@ -26,7 +26,7 @@ use std::marker::Model;
 #[derive(Drop)]
 pub struct Prepared<'a> {
     alloc: Global,
-    frame: Frame<'a>,
+    frame: FastFrame<'a>,
     variables: Variables<'a>,
     claims: [u8; 8],
     mask: u32,
@@ -38,18 +38,18 @@ impl<'a> Model for Prepared<'a> {
     ghost use Rattle.scalar_ranges.specs.Known.{nothing_known};
     ghost use Rattle.block_cache_gen.specs.Homes.{Setting};
     ghost use Rattle.block_cache_gen.specs.Notes.{base_mask, slot_claims};
-    ghost use Rattle.block_cache_gen.specs.Settings.{IsFrame, setting_of};
+    ghost use Rattle.block_cache_gen.specs.Settings.{IsFastFrame, fast_setting};
     ghost use Rattle.gr_base.specs.NameMaps.{found_under};
     ghost use Rattle.block_cache_gen.specs.Variables.{variable_of};
 
     ghost Value = { Setting };
 
-    ghost view = { λ e. setting_of e.frame };
+    ghost view = { λ e. fast_setting e.frame };
 
-    ghost invariant = { λ e. IsFrame e.frame
-        × ((e.known.items ≡ nothing_known (length e.frame.program.now.decls.items)) × ((e.claims ≡ slot_claims (setting_of e.frame)) × ((e.mask ≡ base_mask (setting_of e.frame))
+    ghost invariant = { λ e. IsFastFrame e.frame
+        × ((e.known.items ≡ nothing_known (length e.frame.program.now.decls.items)) × ((e.claims ≡ slot_claims (fast_setting e.frame)) × ((e.mask ≡ base_mask (fast_setting e.frame))
         × ((x : List ℕ) → found_under e.variables x ≡ variable_of
-        e.frame.slots.now.pins e.frame.profile.now.block_log e.frame.held.now 0 e.frame.program.now.decls.items e.frame.places.now.of_var.items
+        e.frame.pins e.frame.profile.now.block_log e.frame.held.now 0 e.frame.program.now.decls.items e.frame.places.now.of_var.items
         e.frame.slots.now.of_var.items x)))) };
 }
 
@@ -121,9 +121,9 @@ impl<'a> Prepared<'a> {
     ghost use Rattle.block_cache_gen.specs.Homes.{home_of, register_for};
 
     /// Makes a frame ready.
-    pub fn new(alloc: Global, f: &Frame<'a>) -> Result<Prepared<'a>, Memory>
-        requires { IsFrame f.now }
-        ensures { IfOk result (λ prepared. prepared ≡ setting_of f.now) }
+    pub fn new(alloc: Global, f: &FastFrame<'a>) -> Result<Prepared<'a>, Memory>
+        requires { IsFastFrame f.now }
+        ensures { IfOk result (λ prepared. prepared ≡ fast_setting f.now) }
     {
         let slots = f.slots.of_var.as_slice();
         let variables = gather(
@@ -131,12 +131,12 @@ impl<'a> Prepared<'a> {
             f.program.decls.as_slice(),
             f.places.of_var.as_slice(),
             slots,
-            &f.slots.pins,
+            &f.pins,
             f.profile.block_log,
             f.held,
         )?;
         let known = nothing_known(alloc, f.program.decls.as_slice().len())?;
-        let claims = claims_in(&f.slots.pins, slots);
+        let claims = claims_in(&f.pins, slots);
         let mask = mask_of_held(f.program.decls.as_slice(), f.held);
         Ok(Prepared {
             alloc,
@@ -184,7 +184,7 @@ impl<'a> Prepared<'a> {
     pub(crate) fn pins(&self) -> [Option<Pin>; 8]
         ensures { result ≡ self.now.pins }
     {
-        self.frame.pins()
+        self.frame.pins
     }
 
     // The first block of the first variable that a slot serves, `None` if it serves no variable.

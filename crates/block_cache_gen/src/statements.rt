@@ -5,6 +5,7 @@ ghost use Rattle.lt_isa.specs.Prelude.{most_instructions};
 ghost use Rattle.block_cache_gen.specs.Assignments.{IsAssignment};
 ghost use Rattle.block_cache_gen.specs.Codes.{store_code, stored_code, target, write_code};
 ghost use Rattle.block_cache_gen.specs.Emitted.{Appended, EmitsGuard, EmitsSet, EmitsStraight, CodeGrows, no_notes};
+ghost use Rattle.block_cache_gen.specs.Homes.{room_of};
 ghost use Rattle.block_cache_gen.specs.Variables.{home_in};
 ghost use Rattle.block_cache_gen.specs.TreeWords.{HasWords, SetHasWords, TestHasWords};
 
@@ -29,8 +30,8 @@ pub fn put_guard<'a>(
     mode: Mode,
 ) -> PutResult
     requires typed { TypedTest (context_of emitter.now.decls) (test_of g.now) }
-    requires left { to + height_of (expr_tree g.now.left) ≤ 17 }
-    requires right { to + 1 + height_of (expr_tree g.now.right) ≤ 17 }
+    requires left { to + height_of (expr_tree g.now.left) ≤ room_of emitter.now }
+    requires right { to + 1 + height_of (expr_tree g.now.right) ≤ room_of emitter.now }
     requires room { length out.old.code.items + 120 * test_weight (test_of g.now) ≤ most_instructions }
     ensures emitted { OnOk result (EmitsGuard emitter.now mode to (test_of g.now) out.old out.new) }
     ensures words { OnOk result (TestHasWords (test_of g.now)) }
@@ -81,7 +82,7 @@ fn put_straight<'a>(
 ) -> PutResult
     requires typed { TypedTree (context_of emitter.now.decls)
         (Operation op (expr_tree left.now) (expr_tree right.now)) }
-    requires low { height_of (Operation op (expr_tree left.now) (expr_tree right.now)) ≤ 17 }
+    requires low { height_of (Operation op (expr_tree left.now) (expr_tree right.now)) ≤ room_of emitter.now }
     requires room { length out.old.code.items
         + 120 * tree_weight (Operation op (expr_tree left.now) (expr_tree right.now)) ≤ most_instructions }
     ensures emitted { OnOk result (EmitsStraight emitter.now mode to

@@ -41,7 +41,7 @@ pub(crate) fn steps_code<'a>(
     right: &'a Expr,
     to: u8,
 ) -> Result<Option<Vec<Instr>>, Memory>
-    requires registers { to + 2 < 19 }
+    requires registers { to + 2 < 28 }
     ensures code { IfOk result (λ found. option_map vec_items found
         ≡ option_map (code_of to) (steps_at emitter.now op (expr_tree right.now))) }
     ensures words { IfOk result (λ found. OnSome found (HasWords (expr_tree right.now))) }

@@ -20,7 +20,7 @@ use Rattle.block_cache_gen.specs.Prelude.{IsEffect, by_mode, code_behind, notes_
 use Rattle.block_cache_gen.proofs.Extending.{extends}
 use Rattle.block_cache_gen.proofs.FrameClauses.{behind-holds, secret_mode}
 use Rattle.block_cache_gen.proofs.FrameIndexes.{frame_public}
-use Rattle.block_cache_gen.proofs.HomesOfFrames.{homes_fit, frame_banks}
+use Rattle.block_cache_gen.proofs.HomesOfFrames.{plain_fit, plain_banks}
 use Rattle.src_tree.proofs.ProgramStatements.{statement_typed, statement_low}
 use Rattle.block_cache_gen.proofs.RangesOfNotes.{rise-wider, guard-rises, guard-count}
 use Rattle.block_cache_gen.proofs.RunsOf.{guard-evaluates}
@@ -135,9 +135,9 @@ module _ (f : Frame) (is : IsFrame f) (mode : Mode) (t : Test) (a b : Block)
       (region_code t.cmp (first_of g Public a b) (second_of g Public a b)) in
       let heavier : test_weight t ≤ statement_weight known label.Secret (Choice t a b) = omega arith in
       extends g banks mode weight (λ m. padded_code g m (Choice t a b)) (λ p. guard_notes g 0 p t) c d
-      (frame_banks f is) (let fit = homes_fit f is in fit.pins) x
+      (plain_banks f is) (let fit = plain_fit f is in fit.pins) x
       (omega (arith, short, weighs)) (omega (arith, count, weighs, heavier))
-      (padded-fits banks g few (homes_fit f is) (Choice t a b) mode typed_secret words low
+      (padded-fits banks g few (plain_fit f is) (Choice t a b) mode typed_secret words low
       (omega (arith, light, weighs)))
       (rise-wider g (place + 1) (place + length (guard_code g Public 0 t)) (place + 1)
       (place + length (padded_code g Public (Choice t a b))) (guard_notes g 0 place t) (omega arith)

@@ -87,7 +87,8 @@ pub fn emit_secret_if<'a>(
         out.old out.new) }
     ensures grows { CodeGrows out.old out.new }
 {
-    let prepared = Prepared::new(alloc, f)?;
+    let frame = f.plain();
+    let prepared = Prepared::new(alloc, &frame)?;
     let emitter = Emitter::new(&prepared);
     put_branch(&emitter, out, s, mode)
 }

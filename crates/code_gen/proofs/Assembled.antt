@@ -13,12 +13,12 @@ use Rattle.trace_patterns.specs.Prelude.{Accepts}
 use Rattle.bank_alloc.specs.Prelude.{AreSymbolsAt, IsLaidOut, IsPlacesOf, places_of, blocks_of_banks}
 use Rattle.bank_alloc.specs.declared.places.Place.{Place}
 use Rattle.bank_alloc.specs.declared.places.Places.{Places}
-use Rattle.scratch_alloc.specs.declared.plans.SlotPlan.{SlotPlan}
+use Rattle.scratch_alloc.specs.declared.plans.PinnedPlan.{PinnedPlan}
 use Rattle.scratch_alloc.specs.declared.plans.Pin.{Pin}
 use Rattle.scratch_alloc.specs.Prelude.{Plan, IsSoundPlan, plan_from, scalar_pins, standard_plan, slots_of}
-use Rattle.block_cache_gen.specs.declared.frames.Frame.{Frame}
+use Rattle.block_cache_gen.specs.declared.frames.FastFrame.{FastFrame}
 use Rattle.held_registers.specs.Prelude.{IsSoundHeld}
-use Rattle.block_cache_gen.specs.Prelude.{HasSecretSlot, Held, Setting, BlockHasWords, IsFrame, plan_of, setting_for, setting_of, stored_words}
+use Rattle.block_cache_gen.specs.Prelude.{HasSecretSlot, Held, Setting, BlockHasWords, IsFastFrame, fast_plan_of, setting_for, fast_setting, stored_words}
 use Rattle.block_cache_gen.proofs.Settled.{IsSettingOf}
 use Rattle.block_cache_gen.proofs.SingleHomes.{oblivious-single}
 use Rattle.compiled_objects.specs.Prelude.{IsFor, LatenciesFit, latency_for, stores_by, Implements}
@@ -57,15 +57,15 @@ latencies-fit l fits bank (n ∷ ns) =
     (banks_from l (bank + 1) ns) (latency-fits l fits (is_ram bank) (is_eram bank)) (latencies-fit l fits (bank + 1) ns)
 
 -- what is assembled over a frame
-pub frame-made : (f : Frame) (l : Latencies) (o : Parts) → IsFrame f → LatenciesFit l → o.profile ≡ f.profile.now
+pub frame-made : (f : FastFrame) (l : Latencies) (o : Parts) → IsFastFrame f → LatenciesFit l → o.profile ≡ f.profile.now
     → o.banks ≡ banks_from l 0 f.places.now.blocks.items
     → AreSymbolsAt (source_of f.program.now) f.profile.now.block_log f.places.now.of_var.items o.symbols
     → ((banks : List BankSpec) → map (λ b. b.blocks) banks ≡ f.places.now.blocks.items
     → EachAfter (SymbolFits (2 ^ f.profile.now.block_log) banks) [] o.symbols)
     → BlockHasWords (source_of f.program.now).body
-    → o.code ≡ program_code (setting_of f) padding_of (source_of f.program.now).body
-    → o.notes ≡ program_notes (setting_of f) padding_of (source_of f.program.now).body
-    → IsMadeOf (source_of f.program.now) (plan_of f) f.profile.now f.reduces f.held.now l o
+    → o.code ≡ program_code (fast_setting f) padding_of (source_of f.program.now).body
+    → o.notes ≡ program_notes (fast_setting f) padding_of (source_of f.program.now).body
+    → IsMadeOf (source_of f.program.now) (fast_plan_of f) f.profile.now f.reduces f.held.now l o
 frame-made f l o frame latencies profile banks symbols named words code notes =
     let blocks : map (λ (b : BankSpec). b.blocks) o.banks ≡ f.places.now.blocks.items =
     ap (map (λ (b : BankSpec). b.blocks)) banks ∙ blocks-made l 0 f.places.now.blocks.items in
@@ -88,13 +88,13 @@ frame-made f l o frame latencies profile banks symbols named words code notes =
     }
 
 -- the plan of a program's own places and slots
-pub plan-standard : (p : Source) (w : ℕ) (places : Places) (slots : SlotPlan) → IsPlacesOf p w places
-    → slots.of_var.items ≡ slots_of places.of_var.items → slots.pins ≡ scalar_pins
+pub plan-standard : (p : Source) (w : ℕ) (places : Places) (slots : PinnedPlan) → IsPlacesOf p w places
+    → slots.plan.of_var.items ≡ slots_of places.of_var.items → slots.pins ≡ scalar_pins
     → plan_from places slots ≡ standard_plan p w
 plan-standard p w places slots are is pins =
     let plan : List Place → List ℕ → List ℕ → List (Option Pin) → Plan =
     λ qs ss bs ps. record { places = qs; slots = ss; blocks = bs; pins = ps } in
-    ap (λ qs. plan qs slots.of_var.items places.blocks.items slots.pins) are.of_var
+    ap (λ qs. plan qs slots.plan.of_var.items places.blocks.items slots.pins) are.of_var
     ∙ ap (λ ss. plan (places_of p w) ss places.blocks.items slots.pins) (is ∙ ap slots_of are.of_var)
     ∙ ap (λ bs. plan (places_of p w) (slots_of (places_of p w)) bs slots.pins) are.blocks
     ∙ ap (plan (places_of p w) (slots_of (places_of p w)) (blocks_of_banks p w)) pins

@@ -6,11 +6,11 @@ use Rattle.lt_isa.specs.declared.instructions.Instr.{Instr}
 use Rattle.lt_isa.specs.declared.instructions.Instr.TheVariants.{Li}
 use Rattle.bank_alloc.specs.declared.places.Place.{Place}
 use Rattle.block_cache_gen.specs.declared.frames.CodeBuf.{CodeBuf}
-use Rattle.block_cache_gen.specs.Prelude.{Appended, no_notes, home_numbered, each_held, Held, Home, Setting, IsFrame, home_at, setting_of}
+use Rattle.block_cache_gen.specs.Prelude.{Appended, no_notes, home_numbered, each_held, Held, Home, Setting, IsFastFrame, home_at, fast_setting}
 use Rattle.scratch_alloc.specs.declared.plans.Pin.{Pin}
 use Rattle.scratch_alloc.specs.Prelude.{no_place}
 use Rattle.held_registers.specs.declared.registers.Held.TheVariants.{Scalar}
-use Rattle.block_cache_gen.specs.declared.frames.Frame.{Frame}
+use Rattle.block_cache_gen.specs.declared.frames.FastFrame.{FastFrame}
 use Rattle.block_cache_gen.proofs.FrameParts.{frame_places, frame_slots}
 use Rattle.block_cache_gen.proofs.HeldBeginning.{held-at}
 use Rattle.block_cache_gen.proofs.Settled.{get_or-homes_at}
@@ -64,7 +64,7 @@ held-past code held place a past =
     subst (λ l. Appended a a (each_held code (place + 19) l) no_notes) (sym (drop_all place held past)) (appended-none a)
 
 -- a scalar that a register holds is declared
-pub held-declared : (f : Frame) → IsFrame f → (place : ℕ) (d : Held) → place < length f.held.now → (n : ℕ)
+pub held-declared : (f : FastFrame) → IsFastFrame f → (place : ℕ) (d : Held) → place < length f.held.now → (n : ℕ)
     → get_or f.held.now place d ≡ Scalar n → n < length f.program.now.decls.items
 held-declared f frame place d below n same =
     let sound = frame.held in
@@ -74,22 +74,22 @@ held-declared f frame place d below n same =
     slice_get_within f.program.now.decls.items n decl found
 
 -- the home of a variable, by its place and its slot
-pub numbered-home : (f : Frame) → IsFrame f → (n : ℕ) → n < length f.program.now.decls.items
-    → home_numbered (setting_of f) n
-    ≡ home_at f.slots.now.pins f.profile.now.block_log (get_or f.places.now.of_var.items n no_place)
+pub numbered-home : (f : FastFrame) → IsFastFrame f → (n : ℕ) → n < length f.program.now.decls.items
+    → home_numbered (fast_setting f) n
+    ≡ home_at f.pins f.profile.now.block_log (get_or f.places.now.of_var.items n no_place)
     (get_or f.slots.now.of_var.items n 0)
 numbered-home f frame n below =
     let places = frame_places f frame in
     let slots = frame_slots f frame in
-    get_or-homes_at f.slots.now.pins f.profile.now.block_log f.places.now.of_var.items f.slots.now.of_var.items n
+    get_or-homes_at f.pins f.profile.now.block_log f.places.now.of_var.items f.slots.now.of_var.items n
     (slots ∙ sym places)
     (omega (arith, below, places))
 
 -- the word and the slot of a variable's home, as its place and its slot have them
-pub scalar-placed : (f : Frame) → IsFrame f → (n : ℕ) (q : Place) (slot : ℕ) (value : ℤ)
+pub scalar-placed : (f : FastFrame) → IsFastFrame f → (n : ℕ) (q : Place) (slot : ℕ) (value : ℤ)
     → n < length f.program.now.decls.items → q ≡ get_or f.places.now.of_var.items n q
     → slot ≡ get_or f.slots.now.of_var.items n slot → value ≡ pos q.word
-    → (value ≡ pos (home_numbered (setting_of f) n).word) × (slot ≡ (home_numbered (setting_of f) n).slot)
+    → (value ≡ pos (home_numbered (fast_setting f) n).word) × (slot ≡ (home_numbered (fast_setting f) n).slot)
 scalar-placed f frame n q slot value below place_is slot_is value_is =
     let places = f.places.now.of_var.items in
     let slots = f.slots.now.of_var.items in

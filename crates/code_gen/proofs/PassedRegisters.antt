@@ -226,7 +226,7 @@ module _ (o : Parts) (f : Setting) (homes : HasHomes o f) where
         let number = set_secret k 0 false in
         let sized = carries.registers in
         let carried : Carries f number = carries-same f 0 k number carries
-        (same-set 0 k k 0 false (omega arith) (omega arith) (same-itself 0 k)) in
+        (same-set f 0 k k 0 false (omega arith) (omega arith) (same-itself f 0 k)) in
         let bound = scalar-bound n x number (λ slot q is few apart. carried.pinned slot q is few apart) in
         let own : held_label f r ≡ Some x.label = ap (label_by f.decls) at ∙ x.own in
         let rest = stored_scalars (p + 1 + 1) (r + 1) held number (held-rest r (thing.Scalar n) held all) carried in

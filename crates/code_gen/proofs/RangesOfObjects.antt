@@ -14,8 +14,8 @@ use Rattle.bank_alloc.specs.declared.places.Place.{Place}
 use Rattle.bank_alloc.proofs.BankSizes.{banks_fit}
 use Rattle.bank_alloc.specs.Prelude.{IsLaidOut, placed_symbols}
 use Rattle.held_registers.specs.declared.registers.Held.TheVariants.{Number, Scalar}
-use Rattle.block_cache_gen.specs.declared.frames.Frame.{Frame}
-use Rattle.block_cache_gen.specs.Prelude.{setting_of, IsFrame, BlockHasWords}
+use Rattle.block_cache_gen.specs.declared.frames.FastFrame.{FastFrame}
+use Rattle.block_cache_gen.specs.Prelude.{fast_setting, IsFastFrame, BlockHasWords}
 use Rattle.block_cache_gen.proofs.HomesOfFrames.{homes_fit, first_fits, frame_banks}
 use Rattle.block_cache_gen.proofs.HeldBeginning.{held-at}
 use Rattle.block_cache_gen.proofs.RangesOfCode.{HomeFits, HomesFit}
@@ -31,10 +31,10 @@ symbols_short (d ∷ ds) [] = omega arith
 symbols_short (d ∷ ds) (q ∷ places) = omega (arith, symbols_short ds places)
 
 -- what registers hold in a frame's code
-held_fit : (f : Frame) → IsFrame f → (banks : ℕ) → HomesFit banks (setting_of f)
-    → HeldFit banks (setting_of f) 19 f.held.now
+held_fit : (f : FastFrame) → IsFastFrame f → (banks : ℕ) → HomesFit banks (fast_setting f)
+    → HeldFit banks (fast_setting f) 19 f.held.now
 held_fit f frame banks homes =
-    let g = setting_of f in
+    let g = fast_setting f in
     let sound = frame.held in
     record {
       few = omega (arith, sound.few);
@@ -47,16 +47,16 @@ held_fit f frame banks homes =
 
 -- The frame that the code was made for; symbols and latencies in their ranges; and numbers that are words, as those of
 -- every program are.
-pub frame-in_range : (f : Frame) → IsFrame f → (o : Parts) → o.profile ≡ f.profile.now
+pub frame-in_range : (f : FastFrame) → IsFastFrame f → (o : Parts) → o.profile ≡ f.profile.now
     → IsLaidOut (source_of f.program.now) f.profile.now.block_log f.places.now.of_var.items f.places.now.blocks.items o
     → EachAfter (SymbolFits (2 ^ f.profile.now.block_log) o.banks) [] o.symbols
     → All (λ b. Within 1 most_latency b.latency) o.banks → BlockHasWords (source_of f.program.now).body
-    → o.code ≡ program_code (setting_of f) padding_of (source_of f.program.now).body
-    → o.notes ≡ program_notes (setting_of f) padding_of (source_of f.program.now).body → IsInRange o
+    → o.code ≡ program_code (fast_setting f) padding_of (source_of f.program.now).body
+    → o.notes ≡ program_notes (fast_setting f) padding_of (source_of f.program.now).body → IsInRange o
 frame-in_range f frame o profile layout named latencies words code notes =
     let p = source_of f.program.now in
     let w = f.profile.now.block_log in
-    let g = setting_of f in
+    let g = fast_setting f in
     let few = frame.profile.taken.1 in
     let light = frame.within.weight in
     let eight : PinsInEight g = λ slot pin pinned. (frame.plan.pins slot pin pinned).few in

@@ -5,7 +5,7 @@ ghost use Rattle.trace_patterns.specs.Prelude.{Accepts};
 ghost use Rattle.bank_alloc.specs.Prelude.{Fits, HasLayout, IsPlacesOf};
 ghost use Rattle.resident_alloc.specs.Prelude.{ResidentsFit};
 ghost use Rattle.held_registers.specs.Prelude.{IsSoundHeld};
-ghost use Rattle.block_cache_gen.specs.Prelude.{BlockHasWords, IsFrame, plan_of, setting_of, stored_words};
+ghost use Rattle.block_cache_gen.specs.Prelude.{BlockHasWords, IsFastFrame, fast_plan_of, fast_setting, stored_words};
 ghost use Rattle.scratch_alloc.specs.Prelude.{IsSoundPlan, plan_from, standard_plan};
 ghost use Rattle.compiled_objects.specs.Prelude.{ExplainsResidents, ExplainsRoom, IsFor, LatenciesFit, stores_in, stores_with_residents, HasFastLayout, Implements, held_for};
 ghost use Rattle.code_gen.specs.Emitted.{padding_of};
@@ -17,27 +17,32 @@ use crate::banks::bank_specs;
 use crate::numbers::held_for;
 use crate::programs::program_code;
 use bank_alloc::{Places, banks, symbols};
-use block_cache_gen::{CodeBuf, Emitter, Frame, Prepared};
+use block_cache_gen::{CodeBuf, Emitter, FastFrame, Prepared};
 use compiled_objects::{CompileError, fast_plan};
 use flow_types::Typed;
 use gr_base::Memory;
 use held_registers::Held;
 use lt_isa::{Latencies, Object, Profile};
-use scratch_alloc::{SlotPlan, slots};
+use scratch_alloc::{PinnedPlan, scalar_pins, slots};
 use source_folding::folded;
 use src_tree::Program;
 use std::alloc::Global;
 
 // The object of a program whose code and notes are made.
-fn assembled(alloc: Global, f: &Frame<'_>, l: &Latencies, made: CodeBuf) -> Result<Object, Memory>
-    requires frame { IsFrame f.now }
+fn assembled(
+    alloc: Global,
+    f: &FastFrame<'_>,
+    l: &Latencies,
+    made: CodeBuf,
+) -> Result<Object, Memory>
+    requires frame { IsFastFrame f.now }
     requires latencies { LatenciesFit l.now }
     requires words { BlockHasWords (source_of f.now.program.now).body }
     requires code { made.code.items
-        ≡ program_code (setting_of f.now) padding_of (source_of f.now.program.now).body }
+        ≡ program_code (fast_setting f.now) padding_of (source_of f.now.program.now).body }
     requires notes { made.notes.items
-        ≡ program_notes (setting_of f.now) padding_of (source_of f.now.program.now).body }
-    ensures { IfOk result (λ o. IsMadeOf (source_of f.now.program.now) (plan_of f.now) f.now.profile.now f.now.reduces
+        ≡ program_notes (fast_setting f.now) padding_of (source_of f.now.program.now).body }
+    ensures { IfOk result (λ o. IsMadeOf (source_of f.now.program.now) (fast_plan_of f.now) f.now.profile.now f.now.reduces
         f.now.held.now l.now o) }
 {
     let symbols = symbols(alloc, f.program, f.profile.block_log, f.places)?;
@@ -51,7 +56,7 @@ fn planned(
     alloc: Global,
     program: &Program,
     places: &Places,
-    slots: &SlotPlan,
+    slots: &PinnedPlan,
     p: &Profile,
     reduces: bool,
     held: &[Held],
@@ -66,10 +71,11 @@ fn planned(
     ensures { IfOk result (λ o. IsMadeOf (source_of program.now) (plan_from places.now slots.now) p.now reduces
         held.now l.now o) }
 {
-    let frame = Frame {
+    let frame = FastFrame {
         program,
         places,
-        slots,
+        slots: &slots.plan,
+        pins: slots.pins,
         profile: p,
         reduces,
         held,
@@ -85,7 +91,7 @@ fn planned_folded(
     alloc: Global,
     program: &Program,
     places: &Places,
-    slots: &SlotPlan,
+    slots: &PinnedPlan,
     p: &Profile,
     l: &Latencies,
 ) -> Result<Object, Memory>
@@ -121,7 +127,9 @@ fn compiled(
     ensures { IfOk result (λ o. IsMadeOf (source_of program.now) (standard_plan (source_of program.now) p.now.block_log) p.now
         false [] l.now o) }
 {
-    let slots = slots(alloc, places)?;
+    let plan = slots(alloc, places)?;
+    let pins = scalar_pins();
+    let slots = PinnedPlan { plan, pins };
     let held: Vec<Held> = Vec::new(alloc);
     planned(alloc, program, places, &slots, p, false, held.as_slice(), l)
 }

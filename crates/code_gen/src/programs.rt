@@ -3,13 +3,13 @@ ghost use Rattle.gr_word.specs.declared.variables.Label.TheVariants.{Public};
 ghost use Rattle.src_tree.specs.Prelude.{context_of, LowBlock, block_weight, max_weight, block_of_all, TypedBlock};
 ghost use Rattle.held_registers.specs.declared.registers.Held.TheVariants.{Scalar};
 ghost use Rattle.held_registers.specs.Prelude.{secret_zero};
-ghost use Rattle.block_cache_gen.specs.Prelude.{each_held, IsFrame, setting_of, Appended, no_notes, BlockHasWords};
+ghost use Rattle.block_cache_gen.specs.Prelude.{each_held, IsFastFrame, fast_setting, Appended, no_notes, BlockHasWords};
 ghost use Rattle.code_gen.specs.Emitted.{padding_of};
 ghost use Rattle.code_gen.specs.Programs.{access, beginning, each_slot, ending, program_code, program_notes, register_code, slot_code};
 
 use crate::known::known_at_start;
 use crate::statements::put_block;
-use block_cache_gen::{CodeBuf, Emitter, Frame};
+use block_cache_gen::{CodeBuf, Emitter, FastFrame};
 use gr_base::Memory;
 use gr_word::Op;
 use held_registers::Held;
@@ -81,14 +81,14 @@ fn access(phase: Phase, register: u8, slot: u8) -> Instr
 // What a register begins with, or the store of the scalar that it holds.
 fn put_register(
     out: &mut CodeBuf,
-    f: &Frame<'_>,
+    f: &FastFrame<'_>,
     phase: Phase,
     register: u8,
     held: Held,
 ) -> Result<(), Memory>
-    requires frame { IsFrame f.now }
+    requires frame { IsFastFrame f.now }
     requires scalar { (n : ℕ) → held ≡ Scalar n → n < length f.now.program.now.decls.items }
-    ensures { OnOk result (Appended out.old out.new (register_code phase (setting_of f.now) register held) no_notes) }
+    ensures { OnOk result (Appended out.old out.new (register_code phase (fast_setting f.now) register held) no_notes) }
 {
     match held {
         Held::SecretZero => match phase {
@@ -129,10 +129,10 @@ fn put_register(
 }
 
 // What the registers begin with that hold something for the whole run, or the stores of the scalars among it.
-fn put_registers(out: &mut CodeBuf, f: &Frame<'_>, phase: Phase) -> Result<(), Memory>
-    requires frame { IsFrame f.now }
+fn put_registers(out: &mut CodeBuf, f: &FastFrame<'_>, phase: Phase) -> Result<(), Memory>
+    requires frame { IsFastFrame f.now }
     ensures { OnOk result (Appended out.old out.new
-        (each_held (register_code phase (setting_of f.now)) secret_zero f.now.held.now) no_notes) }
+        (each_held (register_code phase (fast_setting f.now)) secret_zero f.now.held.now) no_notes) }
 {
     for (place, held) in f.held.iter().enumerate() {
         put_register(out, f, phase, place as u8 + 19, *held)?;
@@ -143,11 +143,11 @@ fn put_registers(out: &mut CodeBuf, f: &Frame<'_>, phase: Phase) -> Result<(), M
 // The loads of the slots and the registers that the rest of a program relies on.
 fn put_beginning(
     emitter: &Emitter<'_, '_, '_>,
-    f: &Frame<'_>,
+    f: &FastFrame<'_>,
     out: &mut CodeBuf,
 ) -> Result<(), Memory>
-    requires frame { IsFrame f.now }
-    requires same { emitter.now ≡ setting_of f.now }
+    requires frame { IsFastFrame f.now }
+    requires same { emitter.now ≡ fast_setting f.now }
     ensures { OnOk result (Appended out.old out.new (beginning emitter.now) no_notes) }
 {
     put_slots(out, Phase::Beginning, &emitter.first_blocks())?;
@@ -155,9 +155,13 @@ fn put_beginning(
 }
 
 // The stores of the scalars that registers hold and of the blocks that slots hold for the whole run, and the end.
-fn put_ending(emitter: &Emitter<'_, '_, '_>, f: &Frame<'_>, out: &mut CodeBuf) -> Result<(), Memory>
-    requires frame { IsFrame f.now }
-    requires same { emitter.now ≡ setting_of f.now }
+fn put_ending(
+    emitter: &Emitter<'_, '_, '_>,
+    f: &FastFrame<'_>,
+    out: &mut CodeBuf,
+) -> Result<(), Memory>
+    requires frame { IsFastFrame f.now }
+    requires same { emitter.now ≡ fast_setting f.now }
     ensures { OnOk result (Appended out.old out.new (ending emitter.now) no_notes) }
 {
     put_registers(out, f, Phase::Ending)?;
@@ -170,11 +174,11 @@ fn put_ending(emitter: &Emitter<'_, '_, '_>, f: &Frame<'_>, out: &mut CodeBuf) -
 pub(crate) fn program_code<'a>(
     alloc: Global,
     emitter: &Emitter<'a, '_, '_>,
-    f: &Frame<'_>,
+    f: &FastFrame<'_>,
     body: &'a [Stmt],
 ) -> Result<CodeBuf, Memory>
-    requires frame { IsFrame f.now }
-    requires same { emitter.now ≡ setting_of f.now }
+    requires frame { IsFastFrame f.now }
+    requires same { emitter.now ≡ fast_setting f.now }
     requires typed { TypedBlock (context_of emitter.now.decls) Public (block_of_all body.now) }
     requires low { LowBlock (block_of_all body.now) }
     requires light { block_weight (context_of emitter.now.decls) Public (block_of_all body.now) ≤ max_weight }

@@ -2,7 +2,7 @@
 
 use gr_word::{Label, Op};
 use lt_isa::Instr;
-use scratch_alloc::SlotPlan;
+use scratch_alloc::PinnedPlan;
 use src_tree::{Decl, Expr, Guard};
 
 // The first of the registers that hold scalars or numbers for the whole run.
@@ -16,7 +16,7 @@ pub struct CompiledCode<'a> {
     /// The program's variables.
     pub decls: &'a [Decl],
     /// How the code uses the slots of the scratchpad.
-    pub slots: &'a SlotPlan,
+    pub slots: &'a PinnedPlan,
 }
 
 /// A region of two arms: the branch before the first, the jump that ends it, and the place after the second.
@@ -177,7 +177,7 @@ impl CompiledCode<'_> {
     // The slot of a variable.
     fn slot_of(&self, name: &[u8]) -> Option<u8> {
         let number = number_of(self.decls, name)?;
-        Some(*self.slots.of_var.as_slice().get(number)?)
+        Some(*self.slots.plan.of_var.as_slice().get(number)?)
     }
 
     /// The end of an assignment to a variable, whose code begins at a place: after its last store or its result in a
@@ -400,7 +400,7 @@ fn is_secret(decls: &[Decl], name: &[u8]) -> bool {
 }
 
 // Whether a slot holds one block for the whole run.
-fn is_pinned(slots: &SlotPlan, slot: u8) -> bool {
+fn is_pinned(slots: &PinnedPlan, slot: u8) -> bool {
     match slots.pins.get(usize::from(slot)) {
         Some(pin) => pin.is_some(),
         None => false,

@@ -13,7 +13,7 @@ use gr_word::{Name, Shape};
 use lt_isa::{BankKind, Object, Symbol, bank_kind};
 use run_tools::sources::{ReadSource, SourceWords};
 use run_tools::variables::{label_text, number_of};
-use scratch_alloc::{Pin, SlotPlan, slots};
+use scratch_alloc::{Pin, PinnedPlan, scalar_pins, slots};
 use src_tree::Decl;
 use std::alloc::Global;
 
@@ -27,7 +27,7 @@ struct Reasons<'a> {
     source: &'a SourceText,
     accesses: &'a [Option<Access>],
     decls: &'a [Decl],
-    slots: &'a SlotPlan,
+    slots: &'a PinnedPlan,
 }
 
 /// A line for each variable of an object that was made of a source, in the order of banks and places.
@@ -67,7 +67,11 @@ fn lines_of(alloc: Global, reasons: Reasons<'_>, symbols: &[Symbol]) -> Result<V
 }
 
 /// How the code of a program uses the slots of the scratchpad.
-pub(crate) fn slots_of(alloc: Global, program: &Typed, target: &Target) -> Result<SlotPlan, Memory>
+pub(crate) fn slots_of(
+    alloc: Global,
+    program: &Typed,
+    target: &Target,
+) -> Result<PinnedPlan, Memory>
     requires { ProfileFits target.now.profile }
 {
     let block_log = target.profile.block_log;
@@ -78,13 +82,16 @@ pub(crate) fn slots_of(alloc: Global, program: &Typed, target: &Target) -> Resul
         };
     }
     match banks(alloc, program.program(), block_log) {
-        Ok(places) => slots(alloc, &places),
+        Ok(places) => Ok(PinnedPlan {
+            plan: slots(alloc, &places)?,
+            pins: scalar_pins(),
+        }),
         Err(_) => Err(Memory),
     }
 }
 
 /// Whether a slot holds one block for the whole run.
-pub(crate) fn is_pinned(slots: &SlotPlan, slot: u8) -> bool {
+pub(crate) fn is_pinned(slots: &PinnedPlan, slot: u8) -> bool {
     match slots.pins.get(usize::from(slot)) {
         Some(pin) => pin.is_some(),
         None => false,
@@ -166,7 +173,7 @@ impl Reasons<'_> {
         let Some(number) = number_of(self.decls, symbol.name.bytes()) else {
             return Ok(());
         };
-        let Some(slot) = self.slots.of_var.as_slice().get(number) else {
+        let Some(slot) = self.slots.plan.of_var.as_slice().get(number) else {
             return Ok(());
         };
         let slot = *slot;
@@ -215,7 +222,7 @@ impl Reasons<'_> {
         slot: u8,
     ) -> Result<(), Memory> {
         let mut sharers: u32 = 0;
-        let slots = self.slots.of_var.as_slice();
+        let slots = self.slots.plan.of_var.as_slice();
         for (other, (decl, own)) in self.decls.iter().zip(slots).enumerate() {
             if other != number && *own == slot {
                 if sharers < MOST_NAMED {

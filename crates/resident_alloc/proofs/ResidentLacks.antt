@@ -18,7 +18,7 @@ use Rattle.bank_alloc.proofs.Refusals.{found_full, is_scalar_class, none_full, s
 use Rattle.resident_alloc.specs.declared.wants.Want.{Want}
 use Rattle.bank_alloc.specs.declared.places.Places.{Places}
 use Rattle.scratch_alloc.specs.Prelude.{Plan, plan_from}
-use Rattle.scratch_alloc.specs.declared.plans.SlotPlan.{SlotPlan}
+use Rattle.scratch_alloc.specs.declared.plans.PinnedPlan.{PinnedPlan}
 use Rattle.resident_alloc.specs.Prelude.{plan_of, scalars_lack, ResidentsFit, ResidentsRefuse, planned, resident_banks, resident_blocks, is_of, wants_of}
 
 -- there are ten banks at most
@@ -115,7 +115,7 @@ blocks_counted : (p : Source) (w : ℕ) → length (blocks_of p w) ≡ resident_
 blocks_counted p w =
     length-map-range_with_len (resident_blocks (2 ^ w) (wants_of p)) 0 (resident_banks (2 ^ w) (wants_of p))
 
-pub blocks_are : (p : Source) (w size : ℕ) (all : List Want) (blocks : List ℕ) (places : Places) (slots : SlotPlan)
+pub blocks_are : (p : Source) (w size : ℕ) (all : List Want) (blocks : List ℕ) (places : Places) (slots : PinnedPlan)
     → size ≡ 2 ^ w → all ≡ wants_of p → blocks ≡ places.blocks.items → plan_from places slots ≡ plan_of size all
     → blocks ≡ blocks_of p w
 blocks_are p w size all blocks places slots is same read planned =

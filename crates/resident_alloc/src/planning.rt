@@ -18,7 +18,7 @@ use bank_alloc::allocation::{block_words, first_full};
 use bank_alloc::{Class, Place, PlaceError, Places};
 use gr_base::Memory;
 use gr_word::Label;
-use scratch_alloc::{Pin, SlotPlan};
+use scratch_alloc::{Pin, PinnedPlan, SlotPlan};
 use src_tree::Program;
 use std::alloc::Global;
 
@@ -26,7 +26,7 @@ use std::alloc::Global;
 #[derive(Debug, Drop)]
 pub struct ResidentPlan {
     pub places: Places,
-    pub slots: SlotPlan,
+    pub slots: PinnedPlan,
 }
 
 fn places_of(alloc: Global, planned: &[Planned]) -> Result<Vec<Place>, Memory>
@@ -152,8 +152,9 @@ fn plan_of(alloc: Global, size: u32, all: &[Want]) -> Result<ResidentPlan, Memor
     let blocks = blocks_of_banks(alloc, size, all)?;
     let places = Places { of_var, blocks };
     let of_var = slots_of(alloc, planned)?;
+    let plan = SlotPlan { of_var };
     let pins = pins_of(planned);
-    let slots = SlotPlan { of_var, pins };
+    let slots = PinnedPlan { plan, pins };
     Ok(ResidentPlan { places, slots })
 }
 

@@ -13,6 +13,7 @@ use Rattle.bank_alloc.specs.declared.places.Places.{Places}
 use Rattle.bank_alloc.specs.Classes.{class_of}
 use Rattle.bank_alloc.specs.Places.{places_of, blocks_of_banks}
 use Rattle.bank_alloc.specs.Apart.{IsBankOf, AreApart, scalar_bank, end_of_place}
+use Rattle.scratch_alloc.specs.declared.plans.PinnedPlan.{PinnedPlan}
 use Rattle.scratch_alloc.specs.declared.plans.SlotPlan.{SlotPlan}
 use Rattle.scratch_alloc.specs.Slots.{slots_of}
 pub use Rattle.bank_alloc.specs.Layout.{no_decl, no_place}
@@ -26,13 +27,16 @@ pub record Plan : Type 0 where
   pub blocks : List ℕ
   pub pins : List (Option Pin)
 
-abbrev pub plan_from : Places → SlotPlan → Plan
-plan_from places slots = record {
+abbrev pub plan_with : Places → SlotPlan → List (Option Pin) → Plan
+plan_with places slots pins = record {
   places = places.of_var.items;
   slots = slots.of_var.items;
   blocks = places.blocks.items;
-  pins = slots.pins;
+  pins = pins;
 }
+
+abbrev pub plan_from : Places → PinnedPlan → Plan
+plan_from places slots = plan_with places slots.plan slots.pins
 
 -- Without `--fast`, slots 0 and 1 hold the blocks of the scalars for the whole run, and no other slot holds one.
 abbrev pub scalar_pins : List (Option Pin)

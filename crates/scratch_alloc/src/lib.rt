@@ -8,4 +8,4 @@ mod laws;
 pub mod plans;
 
 pub use laws::slot_laws;
-pub use plans::{Pin, SlotPlan, slots};
+pub use plans::{Pin, PinnedPlan, SlotPlan, scalar_pins, slots};

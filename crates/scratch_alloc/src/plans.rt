@@ -17,11 +17,17 @@ pub struct Pin {
     pub block: u32,
 }
 
-/// How compiled code uses the eight slots of the scratchpad.
+/// The slots by which compiled code reaches the variables of a program.
 #[derive(Debug, Drop)]
 pub struct SlotPlan {
     /// The slot that serves each variable, in order of declaration.
     pub of_var: Vec<u8>,
+}
+
+/// A plan of slots, and which of them hold one block for the whole run.
+#[derive(Debug, Drop)]
+pub struct PinnedPlan {
+    pub plan: SlotPlan,
     /// The block that each slot holds for the whole run, from slot 0 on. Any other slot holds several blocks in turn.
     pub pins: [Option<Pin>; 8],
 }
@@ -90,16 +96,22 @@ fn slot_behind(before: &[Place], place: Place) -> u8
 /// encrypted memory, and slot 6 for oblivious arrays. The only error is want of memory.
 pub fn slots(alloc: Global, places: &Places) -> Result<SlotPlan, Memory>
     ensures slots { IfOk result (λ plan. plan.of_var.items ≡ slots_of places.now.of_var.items) }
-    ensures pins { IfOk result (λ plan. plan.pins ≡ scalar_pins) }
 {
     let places = places.of_var.as_slice();
     let mut of_var = Vec::with_capacity(alloc, places.len())?;
     for (i, place) in places.iter().enumerate() {
         of_var.push(slot_behind(&places[..i], *place))?;
     }
+    Ok(SlotPlan { of_var })
+}
+
+/// The block that each slot holds for the whole run without `--fast`: slots 0 and 1 hold those of the scalars.
+pub fn scalar_pins() -> [Option<Pin>; 8]
+    ensures { result ≡ scalar_pins }
+{
     let plain = Pin { bank: 0, block: 0 };
     let encrypted = Pin { bank: 1, block: 0 };
-    let pins = [
+    [
         Some(plain),
         Some(encrypted),
         None,
@@ -108,6 +120,5 @@ pub fn slots(alloc: Global, places: &Places) -> Result<SlotPlan, Memory>
         None,
         None,
         None,
-    ];
-    Ok(SlotPlan { of_var, pins })
+    ]
 }

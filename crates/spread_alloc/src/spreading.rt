@@ -10,7 +10,7 @@ use bank_alloc::allocation::block_words;
 use bank_alloc::placing::{blocks_for, is_oblivious};
 use bank_alloc::{Place, Places};
 use gr_base::Memory;
-use scratch_alloc::{Pin, SlotPlan};
+use scratch_alloc::{Pin, PinnedPlan};
 use std::alloc::Global;
 
 const SPREAD_SLOTS: [u8; 5] = [2, 3, 4, 5, 7];
@@ -41,17 +41,17 @@ fn is_pinned(pins: &[Option<Pin>], slot: u8) -> bool
 }
 
 // Whether a slot may hold a block of a variable.
-fn is_free(slots: &SlotPlan, variable: usize, slot: u8) -> bool
-    requires { variable < length slots.now.of_var.items }
-    ensures { result ≡ is_free slots.now.pins slots.now.of_var.items variable slot }
+fn is_free(slots: &PinnedPlan, variable: usize, slot: u8) -> bool
+    requires { variable < length slots.now.plan.of_var.items }
+    ensures { result ≡ is_free slots.now.pins slots.now.plan.of_var.items variable slot }
 {
-    !is_pinned(&slots.pins, slot) && !serves_other(slots.of_var.as_slice(), variable, slot)
+    !is_pinned(&slots.pins, slot) && !serves_other(slots.plan.of_var.as_slice(), variable, slot)
 }
 
 // The slots that may hold blocks of a variable. The only error is want of memory.
-fn free_slots(alloc: Global, slots: &SlotPlan, variable: usize) -> Result<Vec<u8>, Memory>
-    requires { variable < length slots.now.of_var.items }
-    ensures { IfOk result (λ free. free.items ≡ free_slots slots.now.pins slots.now.of_var.items variable) }
+fn free_slots(alloc: Global, slots: &PinnedPlan, variable: usize) -> Result<Vec<u8>, Memory>
+    requires { variable < length slots.now.plan.of_var.items }
+    ensures { IfOk result (λ free. free.items ≡ free_slots slots.now.pins slots.now.plan.of_var.items variable) }
 {
     let mut free = Vec::new(alloc);
     for slot in SPREAD_SLOTS {
@@ -130,7 +130,7 @@ fn spread_over(
     size: u32,
     oblivious: bool,
     places: &mut Places,
-    slots: &mut SlotPlan,
+    slots: &mut PinnedPlan,
     variable: usize,
     over: &[u8],
 )
@@ -151,7 +151,7 @@ fn spread_over(
         places.blocks[1] = encrypted + over.len() as u32;
     }
     places.of_var[variable] = place;
-    slots.of_var[variable] = over[0];
+    slots.plan.of_var[variable] = over[0];
     pin_from(&mut slots.pins, over, place.block);
 }
 
@@ -169,7 +169,7 @@ fn spread_one(
     size: u32,
     oblivious: bool,
     places: &mut Places,
-    slots: &mut SlotPlan,
+    slots: &mut PinnedPlan,
     variable: usize,
 ) -> Result<(), Memory>
     requires size { Within 8 512 size }
@@ -179,7 +179,7 @@ fn spread_one(
         ≡ spread_one size oblivious (plan_from places.old slots.old) variable) }
 {
     let place = places.of_var[variable];
-    let pinned = is_pinned(&slots.pins, slots.of_var[variable]);
+    let pinned = is_pinned(&slots.pins, slots.plan.of_var[variable]);
     if !is_candidate(size, oblivious, place, pinned) {
         return Ok(());
     }
@@ -200,7 +200,7 @@ fn spread_turn(
     size: u32,
     oblivious: bool,
     places: &mut Places,
-    slots: &mut SlotPlan,
+    slots: &mut PinnedPlan,
 ) -> Result<(), Memory>
     requires size { Within 8 512 size }
     requires fits { PlanFits (plan_from places.old slots.old) }
@@ -227,7 +227,12 @@ fn last_bank(places: &[Place]) -> u8
 /// no slot holds yet, as long as there are free slots. Arrays of oblivious banks come first, and move to the end of
 /// encrypted memory. Oblivious banks after the last one that is still in use are dropped. The only error is want of
 /// memory.
-pub fn spread(alloc: Global, w: u8, places: &mut Places, slots: &mut SlotPlan) -> Result<(), Memory>
+pub fn spread(
+    alloc: Global,
+    w: u8,
+    places: &mut Places,
+    slots: &mut PinnedPlan,
+) -> Result<(), Memory>
     requires block_log { Within 3 9 w }
     requires fits { PlanFits (plan_from places.old slots.old) }
     ensures plan { OnOk result (plan_from places.new slots.new ≡ spread_plan w (plan_from places.old slots.old)) }

@@ -9,7 +9,7 @@ use Rattle.block_cache_gen.proofs.calls.emit_expr.Goals as goal
 pub returns : goal.returns
 returns c =
     let e = expr_tree c.args.e.now in
-    let same = c.new-emitter.ensures ∙ c.in_ok-prepared.ensures {u = tt} in
+    let same = c.new-emitter.ensures ∙ c.in_ok-prepared.ensures {u = tt} ∙ c.plain-frame.ensures.setting in
     let promised = frame-expr_promises c.args.f.now c.new-emitter.result c.args.mode c.args.to e c.args.out.now
     c.put_expr.new.out c.requires.frame same c.requires.typed c.requires.indexes c.requires.registers in
     let emitted = on_ok_weaker c.put_expr.result

@@ -8,7 +8,7 @@ use Rattle.block_cache_gen.proofs.calls.emit_guard.Goals as goal
 pub returns : goal.returns
 returns c =
     let t = test_of c.args.g.now in
-    let same = c.new-emitter.ensures ∙ c.in_ok-prepared.ensures {u = tt} in
+    let same = c.new-emitter.ensures ∙ c.in_ok-prepared.ensures {u = tt} ∙ c.plain-frame.ensures.setting in
     let promised = frame-test_promises c.args.f.now c.new-emitter.result c.args.mode c.args.to t c.args.out.now
     c.put_guard.new.out c.requires.frame same c.requires.typed c.requires.indexes c.requires.left c.requires.right in
     record {

@@ -14,7 +14,7 @@ put_set-requires-clause-typed c =
     let s = statement_of c.args.s.now in
     let P : Setting → Type 0 = λ f. TypedStatement (context_of f.decls) c.requires.stands.code s in (
       c.requires.stands.code,
-      subst P (sym (c.new-emitter.ensures ∙ c.in_ok-prepared.ensures {u = tt}))
+      subst P (sym (c.new-emitter.ensures ∙ c.in_ok-prepared.ensures {u = tt} ∙ c.plain-frame.ensures.setting))
           (statement_typed (source_of c.args.f.now.program.now) c.requires.stands.code s c.requires.frame.typed
           c.requires.stands.stands),
     )
@@ -27,7 +27,7 @@ put_set-requires-clause-low c =
 pub returns : goal.returns
 returns c =
     let s = statement_of c.args.s.now in
-    let same = c.new-emitter.ensures ∙ c.in_ok-prepared.ensures {u = tt} in
+    let same = c.new-emitter.ensures ∙ c.in_ok-prepared.ensures {u = tt} ∙ c.plain-frame.ensures.setting in
     let promised = frame-set_promises c.args.f.now c.new-emitter.result c.args.mode s c.args.out.now
     c.put_set.new.out c.requires.frame same c.requires.assignment c.requires.stands in
     record {

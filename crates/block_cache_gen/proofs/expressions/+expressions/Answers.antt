@@ -12,7 +12,7 @@ use Rattle.block_cache_gen.proofs.expressions.+expressions.Goals as goal
 pub put_expr-steps_code-requires : goal.put_expr-steps_code-requires
 put_expr-steps_code-requires t c = record {
   registers =
-      steps-low c.args.to (expr_tree c.args.e.now) c.in-Bin.op (expr_tree c.in-Bin.left.value)
+      steps-low c.args.emitter.now c.args.to (expr_tree c.args.e.now) c.in-Bin.op (expr_tree c.in-Bin.left.value)
       (expr_tree c.in-Bin.right.value) (ap expr_tree c.in-Bin.is) c.requires.registers;
 }
 

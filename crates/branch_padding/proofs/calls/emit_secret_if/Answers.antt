@@ -14,7 +14,7 @@ put_branch-requires c =
     let f = c.args.f.now in
     let s = statement_of c.args.s.now in
     let e = c.new-emitter.result in
-    let same = c.new-emitter.ensures ∙ c.in_ok-prepared.ensures {u = tt} in
+    let same = c.new-emitter.ensures ∙ c.in_ok-prepared.ensures {u = tt} ∙ c.plain-frame.ensures.setting in
     record {
       few = call_few f c.requires.frame e same c.args.mode;
       choice = call_choice f c.requires.frame e same c.args.mode s c.requires.branch;
@@ -29,7 +29,7 @@ pub returns : goal.returns
 returns c =
     let s = statement_of c.args.s.now in
     let e = c.new-emitter.result in
-    let same = c.new-emitter.ensures ∙ c.in_ok-prepared.ensures {u = tt} in
+    let same = c.new-emitter.ensures ∙ c.in_ok-prepared.ensures {u = tt} ∙ c.plain-frame.ensures.setting in
     let promised = call_promises c.args.f.now c.requires.frame e same c.args.mode s
     c.requires.branch c.args.out.now c.put_branch.new.out in
     record {

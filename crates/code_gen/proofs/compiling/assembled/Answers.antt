@@ -2,7 +2,7 @@ use Rattle.std.proofs.Common.{refl, sym, subst, ap, ◌∙◌}
 use Rattle.lt_isa.specs.Prelude.{Parts}
 use Rattle.src_tree.specs.Prelude.{source_of}
 use Rattle.scratch_alloc.proofs.PlanPlaces.{plan_places}
-use Rattle.block_cache_gen.specs.Prelude.{plan_of}
+use Rattle.block_cache_gen.specs.Prelude.{fast_plan_of}
 use Rattle.code_gen.specs.Prelude.{banks_from, IsMadeOf}
 use Rattle.code_gen.proofs.Assembled.{frame-made}
 use Rattle.code_gen.proofs.compiling.assembled.Goals.{In_ok-banks}
@@ -20,11 +20,11 @@ object_of c = record {
 
 pub symbols-requires-clause-places : goal.symbols-requires-clause-places
 symbols-requires-clause-places c =
-    plan_places (source_of c.args.f.now.program.now) c.args.f.now.profile.now.block_log (plan_of c.args.f.now)
+    plan_places (source_of c.args.f.now.program.now) c.args.f.now.profile.now.block_log (fast_plan_of c.args.f.now)
     c.requires.frame.plan
 
 made : (c : In_ok-banks)
-    → IsMadeOf (source_of c.args.f.now.program.now) (plan_of c.args.f.now) c.args.f.now.profile.now c.args.f.now.reduces
+    → IsMadeOf (source_of c.args.f.now.program.now) (fast_plan_of c.args.f.now) c.args.f.now.profile.now c.args.f.now.reduces
     c.args.f.now.held.now c.args.l.now (object_of c)
 made c =
     frame-made c.args.f.now c.args.l.now (object_of c) c.requires.frame c.requires.latencies refl
@@ -37,6 +37,6 @@ of_parts-requires c = let h = made (goal.at.of_parts-requires c).In_ok-banks in 
 
 pub returns : goal.returns
 returns c =
-    subst (IsMadeOf (source_of c.args.f.now.program.now) (plan_of c.args.f.now) c.args.f.now.profile.now c.args.f.now.reduces
+    subst (IsMadeOf (source_of c.args.f.now.program.now) (fast_plan_of c.args.f.now) c.args.f.now.profile.now c.args.f.now.reduces
     c.args.f.now.held.now c.args.l.now) (sym c.of_parts.ensures)
     (made (goal.at.returns c).In_ok-banks)

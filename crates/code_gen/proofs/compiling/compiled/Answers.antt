@@ -10,6 +10,6 @@ planned-requires-clause-plan c =
     let p = source_of c.args.program.now in
     let w = c.args.p.now.block_log in
     subst (IsSoundPlan p w)
-    (sym (plan-standard p w c.args.places.now c.in_ok-slots.slots c.requires.places c.in_ok-slots.ensures.slots
-    c.in_ok-slots.ensures.pins))
+    (sym (plan-standard p w c.args.places.now (record { plan = c.in_ok-plan.plan; pins = c.scalar_pins-pins.result })
+    c.requires.places c.in_ok-plan.ensures.slots c.scalar_pins-pins.ensures))
     (standard_sound_at p w c.requires.within c.requires.fits)

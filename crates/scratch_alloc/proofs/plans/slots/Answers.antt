@@ -9,8 +9,10 @@ loop-i-preserved c =
     c.slot_behind.result
     c.loop-i-test.true c.slot_behind.ensures c.in_ok-push.ensures.items c.loop-i.invariant
 
-pub returns-clause-slots : goal.returns-clause-slots
-returns-clause-slots c =
-    slots_all c.as_slice-places.result.now c.loop-i.i c.loop-i.of_var.items
-    (omega (arith, c.loop-i-test.false)) c.loop-i.invariant
-    ∙ ap slots_of c.as_slice-places.ensures.value
+pub returns : goal.returns
+returns c = record {
+  slots =
+      slots_all c.as_slice-places.result.now c.loop-i.i c.loop-i.of_var.items
+      (omega (arith, c.loop-i-test.false)) c.loop-i.invariant
+      ∙ ap slots_of c.as_slice-places.ensures.value;
+}

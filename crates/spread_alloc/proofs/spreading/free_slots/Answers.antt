@@ -7,7 +7,7 @@ use Rattle.spread_alloc.proofs.spreading.free_slots.Goals as goal
 pub loop-slot-preserved : goal.loop-slot-preserved
 loop-slot-preserved c =
     let pins = c.args.slots.now.pins in
-    let slots = c.args.slots.now.of_var.items in
+    let slots = c.args.slots.now.plan.of_var.items in
     let all = free_slots pins slots c.args.variable in
     elim c.if-is_free.branch [
       | then-is_free+in_ok-push w ↦

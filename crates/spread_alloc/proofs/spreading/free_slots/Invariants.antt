@@ -4,5 +4,5 @@ use Rattle.spread_alloc.proofs.spreading.free_slots.Given as goal
 
 abbrev pub invariant-loop-slot : goal.invariant-loop-slot
 invariant-loop-slot l =
-    l.free.items ++ free_among l.slots.pins l.slots.of_var.items l.variable (drop l.slot-index spread_slots)
-    ≡ free_slots l.slots.pins l.slots.of_var.items l.variable
+    l.free.items ++ free_among l.slots.pins l.slots.plan.of_var.items l.variable (drop l.slot-index spread_slots)
+    ≡ free_slots l.slots.pins l.slots.plan.of_var.items l.variable

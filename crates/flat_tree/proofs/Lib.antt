@@ -1,0 +1,5 @@
+pub mod Agreeing
+pub mod Keeping
+pub mod Falling
+pub mod Writing
+pub mod Bounds

@@ -1,0 +1,14 @@
+pub mod Tailed
+pub mod Bindings
+pub mod Places
+pub mod Coming
+pub mod Expressions
+pub mod Ending
+pub mod Looping
+pub mod Statements
+pub mod Calls
+pub mod Pure
+pub mod Kept
+pub mod Obeying
+pub mod FirstSet
+pub mod Whole

@@ -1,0 +1,6 @@
+pub mod Tails
+pub mod Fine
+pub mod Rules
+pub mod Inlining
+pub mod FirstAssignments
+pub mod Promise

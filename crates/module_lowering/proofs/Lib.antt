@@ -1,0 +1,5 @@
+pub mod Scopes
+pub mod Shapes
+pub mod InlinedScopes
+pub mod Lowered
+mod Example

@@ -1,0 +1,4 @@
+pub mod Lowering
+pub mod Naming
+pub mod Shape
+pub mod Promise

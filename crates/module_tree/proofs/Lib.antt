@@ -1,0 +1,3 @@
+pub mod LogicalShift
+pub mod TestedBelow
+pub mod Example
