@@ -14,6 +14,16 @@ use Rattle.call_laws.proofs.Safe.{promises-follow}
 use Rattle.ghost_front.specs.Prelude.{Streams, as_shelf, overlaid, stream_of, told, Around, Delivers, NotDone, Whole, NotPut, Serves, Refused, NoRoom, Printed, Streamed, StreamsFile, KeepsOthers, around, bytes_of}
 use Rattle.ghost_front.proofs.Overlaid.{get_other, kept_below}
 
+-- ---- bytes that are put, and then passed on
+
+pub added_before_flush : (before mid after : SinkSeen) (bytes : List ℕ) → Adds before.held mid.held bytes
+    → after.held ≡ mid.held → Adds before.held after.held bytes
+added_before_flush before mid after bytes adds flushed = subst (λ held. Adds before.held held bytes) (sym flushed) adds
+
+pub rose_in_flush : (before mid after : SinkSeen) → mid.faults ≡ before.faults → Rose mid.faults after.faults
+    → Rose before.faults after.faults
+rose_in_flush before mid after calm rose = subst (λ n. Rose n after.faults) calm rose
+
 -- ---- the file for standard output
 
 pub not_done : (file : Option (List ℕ)) (before : SinkSeen) (verdict : ℕ) → verdict ≢ 0

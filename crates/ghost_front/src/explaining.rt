@@ -3,10 +3,12 @@
 use crate::held_text::push_string;
 use crate::misused::{explain_misused, put_no_verb};
 use crate::outside::Reasons;
+use crate::paths::are_one_path;
 use crate::printing::{DONE, USAGE};
 use crate::requests::Manner;
 use crate::serving::{Ended, Stop};
 use crate::streams::{DASH, ReadFile, StreamShelf};
+use crate::tools::CASE_FAILS;
 use crate::verb_table::verb_help;
 use explain_words::{Call, File};
 use fault_texts::Words;
@@ -158,6 +160,7 @@ fn explanation<F: Shelf + Reasons + Drop, O: Sink + Reasons>(
         },
         USAGE => usage_text(alloc, telling),
         DONE => warnings_text(alloc, telling, shelf.read_files()),
+        CASE_FAILS => other_text(alloc, telling),
         _ => fault_text(alloc, telling, shelf.read_files()),
     }
 }
@@ -172,6 +175,23 @@ fn usage_text(alloc: Global, telling: Telling<'_>) -> Result<Vec<u8>, Memory> {
     let usage = usage_of(telling.words);
     let call = Call::new(alloc, telling.ended.status, usage, telling.words)?;
     telling.explained(alloc, &call, &[])
+}
+
+// A call that ended with status 1. What it printed explains itself, and with `--json` the cases of `test` that failed
+// are printed already.
+fn other_text(alloc: Global, telling: Telling<'_>) -> Result<Vec<u8>, Memory> {
+    if is_verb(telling.words, "test") {
+        return Ok(Vec::new(alloc));
+    }
+    telling.nothing(alloc)
+}
+
+// Whether the first word of a call is this one.
+fn is_verb(words: &[&str], verb: &str) -> bool {
+    match words.first() {
+        Some(word) => *word == verb,
+        None => false,
+    }
 }
 
 // The warnings of a call that did its work.
@@ -191,12 +211,11 @@ fn warnings_text(
 
 // The source of a call of `compile` or `eval`, if OUT, its last file, has the same name and so replaced it.
 fn replaced_source<'a>(words: &[&str], files: &[&'a str]) -> Option<&'a str> {
-    let verb = *words.first()?;
-    if verb != "compile" && verb != "eval" {
+    if !is_verb(words, "compile") && !is_verb(words, "eval") {
         return None;
     }
     let source = *files.first()?;
-    if files.len() > 1 && source != STREAM_NAME && *files.last()? == source {
+    if files.len() > 1 && source != STREAM_NAME && are_one_path(*files.last()?, source) {
         Some(source)
     } else {
         None
@@ -309,9 +328,14 @@ fn fault_text(alloc: Global, telling: Telling<'_>, read: &[ReadFile]) -> Result<
 fn names_of<'a>(alloc: Global, words: &[&'a str]) -> Result<Vec<&'a str>, Memory> {
     let mut named = Vec::with_capacity(alloc, words.len())?;
     for word in words {
-        named.push(if *word == DASH { STREAM_NAME } else { *word })?;
+        named.push(shown_name(*word))?;
     }
     Ok(named)
+}
+
+/// What an explanation calls a file.
+pub(crate) fn shown_name(name: &str) -> &str {
+    if name == DASH { STREAM_NAME } else { name }
 }
 
 // The usage of the verb of a call, empty if there is no such verb.

@@ -2,7 +2,7 @@
 
 use crate::verb_table::{
     NOTES, OPTIONS, OptionHelp, READS, STATUSES, StatusHelp, VERBS, VerbHelp, WRITES,
-    name_of_option, returns, takes,
+    name_of_option, returns, takes, text_for,
 };
 use gr_outside::{Sink, SinkFailed};
 
@@ -16,7 +16,7 @@ pub(crate) fn put_help<O: Sink>(out: &mut O) -> Result<(), SinkFailed> {
     }
     put("\nOptions:\n", out)?;
     for row in OPTIONS {
-        put_option(row, out)?;
+        put_option(row, row.text, out)?;
     }
     put("\n", out)?;
     put(READS, out)?;
@@ -25,6 +25,8 @@ pub(crate) fn put_help<O: Sink>(out: &mut O) -> Result<(), SinkFailed> {
     put("\nExit status:\n", out)?;
     for row in STATUSES {
         put_status(row, out)?;
+        put(row.of, out)?;
+        put("\n", out)?;
     }
     out.flush()
 }
@@ -38,6 +40,7 @@ pub(crate) fn put_help_on<O: Sink>(verb: VerbHelp, out: &mut O) -> Result<(), Si
     for row in STATUSES {
         if returns(verb, row) {
             put_status(row, out)?;
+            put("\n", out)?;
         }
     }
     out.flush()
@@ -57,7 +60,7 @@ fn put_options_of<O: Sink>(verb: VerbHelp, out: &mut O) -> Result<(), SinkFailed
                 put("\nOptions:\n", out)?;
             }
             is_first = false;
-            put_option(row, out)?;
+            put_option(row, text_for(verb, row), out)?;
         }
     }
     Ok(())
@@ -81,19 +84,19 @@ fn put_usage<O: Sink>(verb: VerbHelp, out: &mut O) -> Result<(), SinkFailed> {
     put(verb.text, out)
 }
 
-fn put_option<O: Sink>(row: OptionHelp, out: &mut O) -> Result<(), SinkFailed> {
+fn put_option<O: Sink>(row: OptionHelp, text: &str, out: &mut O) -> Result<(), SinkFailed> {
     put("    ", out)?;
     put(row.option, out)?;
     put("\n", out)?;
-    put(row.text, out)
+    put(text, out)
 }
 
+// A status and its text, without the end of the line.
 fn put_status<O: Sink>(row: StatusHelp, out: &mut O) -> Result<(), SinkFailed> {
     put("    ", out)?;
     put(row.status, out)?;
     put(if row.status.len() < 2 { "   " } else { "  " }, out)?;
-    put(row.text, out)?;
-    put("\n", out)
+    put(row.text, out)
 }
 
 // Prints a text, which the sink may hold back.

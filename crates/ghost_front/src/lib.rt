@@ -8,6 +8,7 @@ mod help;
 mod misused;
 mod named_files;
 mod outside;
+mod paths;
 mod printing;
 mod reading;
 mod requests;

@@ -111,6 +111,16 @@ impl<'a> NamedFiles<'a> {
         Ok(())
     }
 
+    /// The name of the file of cases, if the call reads one.
+    pub(crate) fn cases(&self) -> Option<&'a str> {
+        for file in &self.inputs {
+            if let FileKind::Cases = file.kind {
+                return Some(file.name);
+            }
+        }
+        None
+    }
+
     /// The kind of the file that is read from standard input.
     pub(crate) fn streamed(&self) -> Option<FileKind> {
         for file in &self.inputs {

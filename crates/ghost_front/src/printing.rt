@@ -1,7 +1,7 @@
 //! Prints texts, and returns the exit status that goes with them.
 
-ghost use Rattle.std.specs.Prelude.{◌≡◌, ◌⊎◌, ◌≢◌};
-ghost use Rattle.gr_base.specs.Prelude.{Rose};
+ghost use Rattle.std.specs.Prelude.{◌≡◌, ◌⊎◌, OnOk, OnErr};
+ghost use Rattle.gr_base.specs.Prelude.{Adds, Rose};
 
 use gr_outside::{Sink, SinkFailed};
 
@@ -21,6 +21,19 @@ pub(crate) const NO_MEMORY: u8 = 5;
 pub(crate) fn put_all<O: Sink>(texts: &[&str], out: &mut O) -> Result<(), SinkFailed> {
     'printing: for text in texts {
         out.put(text.as_bytes())?;
+    }
+    out.flush()
+}
+
+/// Prints bytes, and passes on what the sink holds back.
+#[tactic(auto, using(crate::proofs::CallEnds::added_before_flush, crate::proofs::CallEnds::rose_in_flush))]
+pub(crate) fn put_bytes<O: Sink>(bytes: &[u8], out: &mut O) -> Result<(), SinkFailed>
+    ensures printed { OnOk result (Adds (O.seen out.old).held (O.seen out.new).held bytes.now) }
+    ensures failed { OnErr result (Rose (O.seen out.old).faults (O.seen out.new).faults) }
+{
+    match out.put(bytes) {
+        Ok(()) => {}
+        Err(error) => return Err(error),
     }
     out.flush()
 }

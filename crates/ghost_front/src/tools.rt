@@ -7,13 +7,20 @@ ghost use Rattle.ghost_front.specs.Requests.{asks_tool, is_tool};
 ghost use Rattle.ghost_front.specs.Served.{KeepsOthers};
 ghost use Rattle.ghost_front.specs.Streams.{told};
 
+use crate::explaining::{put_text, shown_name};
+use crate::held_text::HeldText;
 use crate::named_files::NamedFiles;
+use crate::printing::{put_bytes, status_after};
 use crate::serving::{Ended, Stop, refused, starved, take_input};
 use crate::streams::StreamShelf;
+use explain_words::failed_cases;
 use ghost_tools::{Count, Diff, Expand, Layout, Listing, Profile, Test, print_report};
 use gr_outside::{Shelf, Sink};
 use std::alloc::Global;
 use std::io::Read;
+
+/// The status of `test` if a case fails.
+pub(crate) const CASE_FAILS: u8 = 1;
 
 /// A verb that the front does itself.
 #[derive(Clone, Copy)]
@@ -59,15 +66,18 @@ fn tool_named(word: &str) -> Option<ToolName>
     }
 }
 
-/// Does the work of a tool. Standard input is read at most once, and only if `-` is the name of a file to read.
+/// Does the work of a tool. Standard input is read at most once, and only if `-` is the name of a file to read. If
+/// `as_lines` is true, `errors` gets a line of JSON for each case of `test` that fails.
 #[tactic(auto, using(crate::proofs::CallEnds::same_files_keep, crate::proofs::CallEnds::input_keeps))]
-pub(crate) fn serve_tool<'a, F: Shelf + Drop, I: Read, O: Sink>(
+pub(crate) fn serve_tool<'a, F: Shelf + Drop, I: Read, O: Sink, E: Sink>(
     alloc: Global,
     tool: ToolName,
     words: &'a [&'a str],
+    as_lines: bool,
     shelf: &mut StreamShelf<F>,
     input: &mut I,
     out: &mut O,
+    errors: &mut E,
 ) -> Ended<'a>
     ensures { KeepsOthers (work_of (texts words.now)) shelf.old.files shelf.new.files }
 {
@@ -80,10 +90,43 @@ pub(crate) fn serve_tool<'a, F: Shelf + Drop, I: Read, O: Sink>(
     if take_input(alloc, files.streamed(), shelf, input).is_err() {
         return starved(out);
     }
+    if as_lines && let ToolName::Test = tool {
+        return serve_test(alloc, words, &files, shelf, out, errors);
+    }
     Ended {
         status: run_tool(alloc, tool, words, shelf, out),
         stop: None,
     }
+}
+
+/// Tries a program on cases, and prints each case that fails to `errors` too, as a line of JSON. The report is kept back
+/// for that, so that the cases are tried only once.
+fn serve_test<'a, F: Shelf + Drop, O: Sink, E: Sink>(
+    alloc: Global,
+    words: &[&str],
+    files: &NamedFiles<'_>,
+    shelf: &mut StreamShelf<F>,
+    out: &mut O,
+    errors: &mut E,
+) -> Ended<'a>
+    ensures { told shelf.new ≡ told shelf.old }
+{
+    let mut held = HeldText::new(alloc, errors);
+    let verdict = print_report::<Test, StreamShelf<F>, HeldText<'_, E>>(
+        alloc, words, shelf, &mut held,
+    );
+    let Some(report) = held.into_text() else {
+        return starved(out);
+    };
+    let status = status_after(put_bytes(report.as_slice(), out), verdict);
+    if status == CASE_FAILS
+        && let Some(name) = files.cases()
+        && let Ok(report) = std::str::from_utf8(report.as_slice())
+        && let Ok(lines) = failed_cases(alloc, shown_name(name), report)
+    {
+        put_text(lines.as_slice(), errors);
+    }
+    Ended { status, stop: None }
 }
 
 fn run_tool<F: Shelf + Drop, O: Sink>(

@@ -46,16 +46,7 @@ pub fn front<F: Shelf + Reasons + Drop, I: Read, O: Sink + Reasons, E: Sink>(
     let asked = asked_words(words);
     let manner = manner_in(program.explains, words);
     let as_lines = asks_json(words);
-    let ended = end_call(
-        alloc,
-        program.path,
-        asked,
-        as_lines,
-        shelf,
-        input,
-        out,
-        errors,
-    );
+    let ended = end_call(alloc, program, asked, as_lines, shelf, input, out, errors);
     explain(alloc, manner, asked, ended, shelf, out, errors);
     ended.status
 }
@@ -63,7 +54,7 @@ pub fn front<F: Shelf + Reasons + Drop, I: Read, O: Sink + Reasons, E: Sink>(
 /// Does what the words ask for, and explains nothing.
 fn end_call<'a, F: Shelf + Drop, I: Read, O: Sink, E: Sink>(
     alloc: Global,
-    path: Option<&str>,
+    program: Program<'_>,
     words: &'a [&'a str],
     as_lines: bool,
     shelf: &mut StreamShelf<F>,
@@ -77,10 +68,13 @@ fn end_call<'a, F: Shelf + Drop, I: Read, O: Sink, E: Sink>(
     ensures others { KeepsOthers (work_of (texts words.now)) shelf.old.files shelf.new.files }
 {
     if let Some(request) = request_in(words) {
-        return answer(alloc, path, request, shelf, out);
+        return answer(alloc, program.path, request, shelf, out);
     }
     match tool_in(words) {
-        Some(tool) => serve_tool(alloc, tool, words, shelf, input, out),
+        Some(tool) => {
+            let lists = as_lines && program.explains;
+            serve_tool(alloc, tool, words, lists, shelf, input, out, errors)
+        }
         None => serve(alloc, words, as_lines, shelf, input, out, errors),
     }
 }

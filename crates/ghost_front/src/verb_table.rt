@@ -22,11 +22,22 @@ pub(crate) struct OptionHelp {
     pub text: &'static str,
 }
 
+/// What `help VERB` prints of an option in place of the text that is about all of its verbs.
+#[derive(Clone, Copy)]
+struct OwnText {
+    option: &'static str,
+    /// The verbs, separated by spaces.
+    verbs: &'static str,
+    text: &'static str,
+}
+
 /// An exit status, with what `help` prints of it.
 #[derive(Clone, Copy)]
 pub(crate) struct StatusHelp {
     pub status: &'static str,
     pub text: &'static str,
+    /// What follows the text in the list of all statuses, if the status means something else for other callers.
+    pub of: &'static str,
     /// The verbs that can return it, separated by spaces. Empty if all can.
     pub verbs: &'static str,
 }
@@ -186,96 +197,151 @@ pub(crate) const OPTIONS: [OptionHelp; 9] = [
     },
 ];
 
+/// The options whose text says more than concerns each of their verbs.
+const OWN_TEXTS: [OwnText; 4] = [
+    OwnText {
+        option: "--paths",
+        verbs: "trace",
+        text: "        Also prints the path of each access to an oblivious bank, and the level of each block at\n        \
+            the end.\n",
+    },
+    OwnText {
+        option: "--paths",
+        verbs: "diff",
+        text: "        Changes nothing: paths are random, so they aren't compared.\n",
+    },
+    OwnText {
+        option: "--paths",
+        verbs: "count",
+        text: "        Changes nothing: paths aren't counted.\n",
+    },
+    OwnText {
+        option: "--recursive",
+        verbs: "run diff count",
+        text: "        Stores each position map in smaller oblivious banks.\n",
+    },
+];
+
 /// The exit statuses.
-pub(crate) const STATUSES: [StatusHelp; 18] = [
+pub(crate) const STATUSES: [StatusHelp; 20] = [
     StatusHelp {
         status: "0",
         text: "success",
+        of: "",
         verbs: "",
     },
     StatusHelp {
         status: "1",
-        text: "the events of both runs differ (diff)",
+        text: "the events of both runs differ",
+        of: " (diff)",
         verbs: "diff",
     },
     StatusHelp {
         status: "1",
-        text: "a case fails (test)",
+        text: "a case fails",
+        of: " (test)",
         verbs: "test",
     },
     StatusHelp {
         status: "1",
-        text: "the code has an unknown form (listing, profile)",
+        text: "the code has an unknown form",
+        of: " (listing, profile)",
         verbs: "listing profile",
     },
     StatusHelp {
         status: "2",
         text: "usage error",
+        of: "",
         verbs: "",
     },
     StatusHelp {
         status: "3",
         text: "a file couldn't be read",
+        of: "",
         verbs: "compile check run trace diff eval test layout listing profile count expand asm dis infer bus",
     },
     StatusHelp {
         status: "4",
         text: "output couldn't be written",
+        of: "",
         verbs: "",
     },
     StatusHelp {
         status: "5",
         text: "out of memory",
+        of: "",
         verbs: "",
     },
     StatusHelp {
         status: "6",
         text: "not an object file",
+        of: "",
         verbs: "check run trace diff count dis infer bus",
     },
     StatusHelp {
         status: "7",
         text: "object rejected",
+        of: "",
         verbs: "check run trace diff count infer bus",
     },
     StatusHelp {
         status: "8",
         text: "source rejected",
+        of: "",
         verbs: "compile eval test layout listing profile expand",
     },
     StatusHelp {
         status: "9",
         text: "inputs don't fit",
-        verbs: "run trace diff eval test profile count bus",
+        of: "",
+        verbs: "run trace diff eval profile count bus",
+    },
+    StatusHelp {
+        status: "9",
+        text: "the file has no cases",
+        of: " (test)",
+        verbs: "test",
     },
     StatusHelp {
         status: "10",
-        text: "limit of cycles or iterations reached",
-        verbs: "run trace diff eval profile count bus sample",
+        text: "limit of cycles reached",
+        of: "",
+        verbs: "run trace diff profile count bus sample",
+    },
+    StatusHelp {
+        status: "10",
+        text: "limit of iterations reached",
+        of: " (eval)",
+        verbs: "eval",
     },
     StatusHelp {
         status: "11",
         text: "file too long",
+        of: "",
         verbs: "compile check run trace diff eval test layout listing profile count expand asm dis infer bus",
     },
     StatusHelp {
         status: "12",
         text: "not an assembly text",
+        of: "",
         verbs: "asm",
     },
     StatusHelp {
         status: "13",
         text: "object can't be a core of the bus",
+        of: "",
         verbs: "bus",
     },
     StatusHelp {
         status: "69",
-        text: "no toolchain to build with (only of the script ghostrider)",
+        text: "no toolchain to build with",
+        of: " (only of the script ghostrider)",
         verbs: "-",
     },
     StatusHelp {
         status: "70",
-        text: "the build failed (only of the script ghostrider)",
+        text: "the build failed",
+        of: " (only of the script ghostrider)",
         verbs: "-",
     },
 ];
@@ -348,6 +414,16 @@ pub(crate) fn name_of_option(row: OptionHelp) -> &'static str {
         Some((name, _)) => name,
         None => row.option,
     }
+}
+
+/// What an option does for a verb.
+pub(crate) fn text_for(verb: VerbHelp, row: OptionHelp) -> &'static str {
+    for own in OWN_TEXTS {
+        if own.option == name_of_option(row) && has_word(own.verbs, name_of(verb)) {
+            return own.text;
+        }
+    }
+    row.text
 }
 
 /// Whether a verb can return a status.
