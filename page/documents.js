@@ -78,12 +78,12 @@ const Documents = (() => {
     if (Objects.isObject(bytes)) {
       return readOnly(`${file} is an object file of ${bytes.length.toLocaleString('en-US')} bytes.`);
     }
-    if (bytes.length > MOST_EDITED) return readOnly(`${file} is too long to be edited here. It is judged as it is.`);
+    if (bytes.length > MOST_EDITED) return readOnly(`${file} is too long to be edited here. It is checked as it is.`);
     let text;
     try {
       text = decoder.decode(bytes);
     } catch (error) {
-      return readOnly(`${file} isn’t UTF-8 text. It is judged as it is, and can’t be edited here.`);
+      return readOnly(`${file} isn’t UTF-8 text. It is checked as it is, and can’t be edited here.`);
     }
     return new Document({ name, group: 'Opened', text });
   }

@@ -8,21 +8,21 @@ const Layout = (() => {
   const COLOURS = ['plain', 'encrypted'];
   const SHOWN = [
     'The bus shows the number of each block that is accessed, and its words.',
-    'The bus shows the number of each block that is accessed, and hides its words.',
-    'The bus shows that the bank is accessed, and hides which block, and its words.',
+    'The bus shows the number of each block that is accessed, but not its words.',
+    'The bus shows that the bank is accessed, but neither which block nor its words.',
   ];
-  const OBLIVIOUS = 'The compiler places a secret array here if a secret chooses the place of one of its accesses';
+  const OBLIVIOUS = 'The compiler places a secret array here if an index of one of its accesses is secret';
   const REASONS = {
     memory: [
       'The compiler places public variables here.',
-      'The compiler places a secret variable here if all its accesses are at public places.',
+      'The compiler places a secret variable here if none of its indexes is secret.',
       `${OBLIVIOUS}.`,
     ],
     scratchpad: [
       'The compiler places public variables here, and keeps scalars and arrays that fit in the scratchpad during a run.',
-      'The compiler keeps secret scalars and arrays that fit in the scratchpad during a run; it places them here, with '
-        + 'the other secret variables whose accesses are all at public places.',
-      `${OBLIVIOUS}, and the array finds no room in the scratchpad.`,
+      'The compiler keeps secret scalars and arrays that fit in the scratchpad during a run. It places them here, with '
+        + 'the other secret variables without a secret index.',
+      `${OBLIVIOUS}, and the array doesn’t fit in the scratchpad.`,
     ],
   };
 

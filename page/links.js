@@ -8,10 +8,10 @@ const Links = (() => {
   const { NO_OWNER } = Listing;
   const START_AND_END = 0;
 
-  const LEGEND = 'Point at a line of the source or of the assembly, tap it, or go through it by the arrow keys: the line '
-    + 'and its instructions light up in both. In the assembly, Enter goes to the line of the source. After each '
-    + 'instruction are its place and its cycles; a branch has two numbers, for not taken and taken.';
-  const PADS = 'only makes both arms of a branch on a secret show the same';
+  const LEGEND = 'Point at a line of the source or of the assembly, tap it, or use the arrow keys: the line and its '
+    + 'instructions are highlighted in both. In the assembly, Enter goes to the line of the source. Each instruction '
+    + 'is followed by its place and its cycles; a branch has two numbers, for not taken and taken.';
+  const PADS = 'only makes both arms of a branch on a secret show the same events';
 
   let view = null;                    // the listing that is linked
   let index = null;                   // of each owner its first line in the listing, and its instructions

@@ -118,7 +118,7 @@ function keep() {
   const saved = Store.save({ current: current.name, drafts: Documents.kept(), options: optionsKept() });
   const isKept = saved && !current.bytes && current.words().length <= Documents.MOST_KEPT;
   at('kept').textContent = isKept || !current.isEdited() ? ''
-    : 'The browser can’t keep this text: it is gone if the page is loaded again.';
+    : 'The browser can’t keep this text: it will be lost when the page is loaded again.';
 }
 
 async function makeLink() {
@@ -160,7 +160,7 @@ function numberIn(id, least, most) {
   at(id).setAttribute('aria-invalid', String(!isGood));
   if (isGood) return words;
   const label = at(id).labels[0].textContent.trim();
-  const message = `${label}: a whole number from ${least} to ${most} is needed, and not “${words}”.`;
+  const message = `${label}: a whole number from ${least} to ${most} is needed, not “${words}”.`;
   throw Object.assign(new Error(message), { id });
 }
 
@@ -310,7 +310,7 @@ function begin() {
     Documents.resume(kept.drafts || []);
     takeOptions(kept.options);
   } catch (error) {
-    Verdict.say('bad', ['What the browser kept is damaged, so it isn’t shown.']);
+    Verdict.say('bad', ['The text that the browser kept is damaged, so it isn’t shown.']);
   }
   choose(Documents.find(kept.current) || Documents.find('findmax.gr'));
   setWorking(false);

@@ -8,7 +8,7 @@ const Results = (() => {
   const MOST_OUTPUT = 65_536;         // bytes of a run's outputs that are shown
   const MOST_LISTED = 100;            // words of a list in them
 
-  const COSTS = 'Beside each line are its cycles, and in brackets how many of them only pad.';
+  const COSTS = 'Beside each line are its cycles, with the padding in brackets.';
 
   let urls = [];
 
@@ -101,7 +101,7 @@ const Results = (() => {
     Links.end();
     at('results').classList.add('stale');
     at('saves').replaceChildren();
-    at('stale').textContent = `Something was changed after this. It is the result for ${job.name} as it was before.`;
+    at('stale').textContent = `Something was changed after this. This is the result for ${job.name} as it was before.`;
   }
 
   return { clear, show, makeStale };

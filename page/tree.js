@@ -51,11 +51,11 @@ const Tree = (() => {
     constructor(parent, result) {
       this.result = result;
       made(parent, 'h2', {}, 'The paths of oblivious banks');
-      made(parent, 'p', {}, 'Each access of an oblivious bank reads and writes one path of its tree, from the root to '
-        + 'a leaf. The leaves are random, so two runs show different paths even if they access the same blocks. It is '
-        + 'proved that two runs of an accepted program access the same banks at the same cycles if their public inputs '
-        + 'agree, and that a rearrangement of the random words of one run gives the leaves of the other. That all '
-        + 'random words are equally likely isn’t proved.');
+      made(parent, 'p', {}, 'Each access to an oblivious bank reads and writes one path of its tree, from the root to '
+        + 'a leaf. The leaves are random, so two runs show different paths even if they access the same blocks. By a '
+        + 'theorem, two runs of an accepted program access the same banks at the same cycles if their public inputs '
+        + 'agree, and a rearrangement of the random words of one run gives the leaves of the other. No theorem states '
+        + 'that all random words are equally likely.');
       this.pair = made(parent, 'div', { class: 'pair', id: 'trees' });
       const first = this.firstPath();
       if (first) this.select(first);
