@@ -72,9 +72,9 @@ class Shell:
         os.chmod(path, 0o755)
 
     def prints(self, command):
-        return subprocess.run(['bash', '-c', command], cwd=self.folder, stdin=subprocess.DEVNULL, check=False, text=True,
-                              stdout=subprocess.PIPE, stderr=subprocess.STDOUT, timeout=SECONDS,
-                              env={**os.environ, 'GHOSTRIDER_EXPLAIN': '1'}).stdout.splitlines()
+        ran = subprocess.run(['bash', '-c', command], cwd=self.folder, stdin=subprocess.DEVNULL, stdout=subprocess.PIPE,
+                             stderr=subprocess.STDOUT, timeout=SECONDS, check=False, text=True)
+        return ran.stdout.splitlines()
 
 
 def sessions(text, shell):

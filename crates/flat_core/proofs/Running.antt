@@ -15,7 +15,7 @@ use Rattle.flat_tree.specs.Meaning.{State, value, holds, at, onward, restored, r
 use Rattle.flat_tree.proofs.Agreeing.{read_here}
 use Rattle.flat_tree.proofs.Writing.{written_twice}
 use Rattle.flat_core.specs.Core.{place, joined, core_term, core_test, core_block, InScope, Settable, CoreTerm, CoreTest, CoreStatement}
-use Rattle.flat_core.specs.Promise.{Sized, LeftAlike, KeepsMeaning}
+use Rattle.flat_core.specs.Promise.{Sized, LeftAlike, CoreKeeps}
 use Rattle.flat_core.proofs.Standing.{Stands, inner_scope, place_below, words_stand, stands_outside, written_stands}
 use Rattle.src_tree.specs.Prelude as core
 use Rattle.flat_tree.specs.Meaning as flat
@@ -277,6 +277,6 @@ module _ (decls : List Decl) (all most : ℕ) (name : ℕ → List ℕ) (is_scal
   ends_alike (Some s) None e = elim e [ ]
   ends_alike (Some s) (Some t) (BothLeft same stands sized) = promise.BothLeft same (record { same = stands })
 
-  pub core_keeps : (s : Statement) → KeepsMeaning decls all most name is_scalar s
+  pub core_keeps : (s : Statement) → CoreKeeps decls all most name is_scalar s
   core_keeps s is m store turns agrees sized =
       ends_alike _ _ (block_follows s [] [] (omega arith) is m store turns agrees.same sized)

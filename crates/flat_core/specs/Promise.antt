@@ -22,8 +22,8 @@ pub data LeftAlike (all : ℕ) : Option State → Option Left → Type 0 where
   BothSpent : LeftAlike all None None
   BothLeft : {s : State} {t : Left} → s.turns ≡ t.turns → Agrees all s.memory t.store → LeftAlike all (Some s) (Some t)
 
-abbrev pub KeepsMeaning : List Decl → ℕ → ℕ → (ℕ → List ℕ) → (ℕ → Bool) → Statement → Type 0
-KeepsMeaning decls all most name is_scalar s =
+abbrev pub CoreKeeps : List Decl → ℕ → ℕ → (ℕ → List ℕ) → (ℕ → Bool) → Statement → Type 0
+CoreKeeps decls all most name is_scalar s =
     CoreStatement all is_scalar most [] s → (m : Memory) (store : Store) (turns : ℕ) → Agrees all m store
     → Sized all most is_scalar store
     → LeftAlike all (run s m turns)

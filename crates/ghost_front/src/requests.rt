@@ -56,6 +56,14 @@ pub(crate) fn asks_json(words: &[&str]) -> bool {
     is_at(words, 0, "--json")
 }
 
+/// Whether each case of `test` that fails is printed as a line of JSON too.
+pub(crate) fn lists_cases(manner: Manner) -> bool {
+    match manner {
+        Manner::Json => true,
+        _ => false,
+    }
+}
+
 // Whether the word at a place is this one.
 fn is_at(words: &[&str], place: usize, wanted: &str) -> bool {
     match words.get(place) {

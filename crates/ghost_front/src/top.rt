@@ -10,7 +10,7 @@ use crate::answering::{Program, answer};
 use crate::explaining::{explain, explain_end};
 use crate::outside::Reasons;
 use crate::printing::USAGE;
-use crate::requests::{asked_words, asks_json, manner_in, request_in};
+use crate::requests::{asked_words, asks_json, lists_cases, manner_in, request_in};
 use crate::serving::{Ended, Stop, serve};
 use crate::streams::StreamShelf;
 use crate::tools::{serve_tool, tool_in};
@@ -46,7 +46,18 @@ pub fn front<F: Shelf + Reasons + Drop, I: Read, O: Sink + Reasons, E: Sink>(
     let asked = asked_words(words);
     let manner = manner_in(program.explains, words);
     let as_lines = asks_json(words);
-    let ended = end_call(alloc, program, asked, as_lines, shelf, input, out, errors);
+    let lists = lists_cases(manner);
+    let ended = end_call(
+        alloc,
+        program.path,
+        asked,
+        as_lines,
+        lists,
+        shelf,
+        input,
+        out,
+        errors,
+    );
     explain(alloc, manner, asked, ended, shelf, out, errors);
     ended.status
 }
@@ -54,9 +65,10 @@ pub fn front<F: Shelf + Reasons + Drop, I: Read, O: Sink + Reasons, E: Sink>(
 /// Does what the words ask for, and explains nothing.
 fn end_call<'a, F: Shelf + Drop, I: Read, O: Sink, E: Sink>(
     alloc: Global,
-    program: Program<'_>,
+    path: Option<&str>,
     words: &'a [&'a str],
     as_lines: bool,
+    lists: bool,
     shelf: &mut StreamShelf<F>,
     input: &mut I,
     out: &mut O,
@@ -68,13 +80,10 @@ fn end_call<'a, F: Shelf + Drop, I: Read, O: Sink, E: Sink>(
     ensures others { KeepsOthers (work_of (texts words.now)) shelf.old.files shelf.new.files }
 {
     if let Some(request) = request_in(words) {
-        return answer(alloc, program.path, request, shelf, out);
+        return answer(alloc, path, request, shelf, out);
     }
     match tool_in(words) {
-        Some(tool) => {
-            let lists = as_lines && program.explains;
-            serve_tool(alloc, tool, words, lists, shelf, input, out, errors)
-        }
+        Some(tool) => serve_tool(alloc, tool, words, lists, shelf, input, out, errors),
         None => serve(alloc, words, as_lines, shelf, input, out, errors),
     }
 }

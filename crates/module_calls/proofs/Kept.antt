@@ -10,7 +10,7 @@ use Rattle.flat_tree.specs.Trees.{Skip}
 use Rattle.flat_tree.specs.Meaning.{State, onward, restored, run}
 use Rattle.flat_tree.proofs.Agreeing.{agree_then, agree_new}
 use Rattle.module_calls.specs.Fine.{FineModule}
-use Rattle.module_calls.specs.Promise.{LeaveAlike, BothSpent, BothLeft, KeepsMeaning}
+use Rattle.module_calls.specs.Promise.{LeaveAlike, BothSpent, BothLeft, InliningKeeps}
 use Rattle.module_calls.proofs.Places.{BelowIf}
 use Rattle.module_calls.proofs.Coming.{CallComes, NoCall, OneCall}
 use Rattle.module_calls.proofs.Calls.{calls_follow}
@@ -38,7 +38,7 @@ leaves all l w (Some c) None e = elim e [ ]
 leaves all l w (Some c) (Some s) (OneCall turns a o is) =
     BothLeft (agree_then a (agree_new s.memory all w (omega arith)))
 
-pub kept_meaning : (pure : List ℕ → Bool) (m : Module) (main : List ℕ) → FineModule pure m → KeepsMeaning m main
+pub kept_meaning : (pure : List ℕ → Bool) (m : Module) (main : List ℕ) → FineModule pure m → InliningKeeps m main
 kept_meaning pure m main fine inputs turns l a =
     let all = length m.items in
     let follow = calls_follow (sizes_of m.items) m pure (record { below = numbers_below m.items }) fine

@@ -17,8 +17,8 @@ pub data LeaveAlike (n : ℕ) : Option Memory → Option State → Type 0 where
   BothLeft : {m : Memory} {s : State} → Agree n m s.memory → LeaveAlike n (Some m) (Some s)
 
 -- for all inputs, all numbers of iterations, and all words of other variables at the start
-abbrev pub KeepsMeaning : Module → List ℕ → Type 0
-KeepsMeaning m main =
+abbrev pub InliningKeeps : Module → List ℕ → Type 0
+InliningKeeps m main =
     (inputs : ℕ → Option (List ℤ)) (turns : ℕ) (l : Memory) → Agree (length m.items) (at_start m.items inputs) l
     → LeaveAlike (length m.items) (module_meaning m main inputs turns) (run (inlined m main) l turns)
 

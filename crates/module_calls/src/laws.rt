@@ -3,7 +3,7 @@ ghost use Rattle.module_tree.specs.Trees.{Module};
 ghost use Rattle.module_calls.specs.Tails.{tailed, MeansTheSame};
 ghost use Rattle.module_calls.specs.Fine.{FineModule};
 ghost use Rattle.module_calls.specs.Rules.{pure_in, ObeysRules};
-ghost use Rattle.module_calls.specs.Promise.{KeepsMeaning, FlattensMeaning};
+ghost use Rattle.module_calls.specs.Promise.{InliningKeeps, FlattensMeaning};
 
 /// A law: a module means the same after its returns moved to the ends of its functions.
 pub fn tails_law()
@@ -17,7 +17,7 @@ pub fn rules_law()
 
 /// A law: the inlined `main` does with the module's variables what the module means.
 pub fn inlining_law()
-    ensures { (pure : List ℕ → Bool) (m : Module) (main : List ℕ) → FineModule pure m → KeepsMeaning m main }
+    ensures { (pure : List ℕ → Bool) (m : Module) (main : List ℕ) → FineModule pure m → InliningKeeps m main }
 {}
 
 /// A law: the statement that a module becomes does with the module's variables what the module means, if all variables
