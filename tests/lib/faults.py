@@ -178,7 +178,8 @@ def says_the_same(status, words, lines):
 
 def place_fault(case, folder, words):
     if case.row.at:
-        return None if words.startswith(f'{case.file}:{case.row.at}: '.encode()) else f'place {case.row.at} is not named'
+        holds = words.startswith(f'{case.file}:{case.row.at}: '.encode())
+        return None if holds else f'place {case.row.at} is not named'
     with open(f'{folder}/{case.file}', 'rb') as file:
         return misplaced(case.line, case.file, file.read(), words)
 
