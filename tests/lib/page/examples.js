@@ -64,7 +64,7 @@ async function paths(user) {
     + '(it) => it.dataset.paths).join()');
   user.says(/^([1-9]\d*),\1$/.test(dots), 'paths are drawn if they are chosen', dots);
   const trees = await user.value("document.querySelectorAll('#trees svg[data-leaf]').length");
-  user.says(trees === 2 && (await user.textOf('shown')).includes('isn’t proved'), 'each run has its tree', trees);
+  user.says(trees === 2 && (await user.textOf('shown')).includes('No theorem states'), 'each run has its tree', trees);
   await user.chooses('heappop.gr');
   await user.presses('trace');
   user.says((await user.textOf('trees')).includes('one block'),
