@@ -7,11 +7,14 @@ use Rattle.module_passes.specs.declared.trees.Stmt.{Stmt}
 use Rattle.module_passes.specs.declared.trees.Stmt.TheOpen.{Stmt-F}
 use Rattle.module_passes.specs.declared.trees.Stmt.TheFolds.{fold-Stmt}
 use Rattle.module_tree.specs.Operators.{Operator, Machine, LogicalShift, Compare, Conjunction, Disjunction}
-use Rattle.module_tree.specs.Trees.{Expression, Number, Named, Element, LengthOf, Operation, Select, Call, Expressions, NoMore, More, Statement, Declare, SetVariable, SetElement, Choice, Loop, Return, Invoke, Nested, Block, Nothing, Then}
+use Rattle.module_tree.specs.Trees.{Expression, Number, Named, Element, LengthOf, Operation, Select, Call, Expressions, NoMore, More, Statement, Declare, SetVariable, SetElement, Choice, Loop, Return, Invoke, Nested, Block, Nothing, Then, Parameter, OfWord, OfArray, Function}
 use Rattle.module_passes.specs.declared.trees.Operator as owned
 use Rattle.module_passes.specs.declared.trees.Operator.TheVariants as sign
 use Rattle.module_passes.specs.declared.trees.Expr.TheOpen as open_expr
 use Rattle.module_passes.specs.declared.trees.Stmt.TheOpen as open_stmt
+use Rattle.module_passes.specs.declared.trees.Parameter as owned_parameter
+use Rattle.module_passes.specs.declared.trees.Parameter.TheVariants as parameter
+use Rattle.module_passes.specs.declared.trees.Function as owned_function
 
 abbrev pub operator_of : owned.Operator → Operator
 operator_of (sign.Machine op) = Machine op
@@ -56,3 +59,16 @@ statement_of = fold-Stmt Statement statement_step
 -- the tree of several statements
 abbrev pub block_of_all : List Stmt → Block
 block_of_all statements = block_of (map statement_of statements)
+
+abbrev pub parameter_of : owned_parameter.Parameter → Parameter
+parameter_of (parameter.Word label x) = OfWord label x
+parameter_of (parameter.Array x) = OfArray x
+
+-- the tree of a function
+abbrev pub function_of : owned_function.Function → Function
+function_of f = record {
+  name = f.name;
+  returns_word = f.returns_word;
+  parameters = map parameter_of f.parameters.items;
+  body = block_of_all f.body.items;
+}

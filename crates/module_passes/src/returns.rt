@@ -1,9 +1,9 @@
-ghost use Rattle.std.specs.Prelude.{◌≡◌, [], ◌∷◌, IfOk, reverse};
-ghost use Rattle.module_calls.specs.Tails.{always, always_in, choice_before, followed, tails};
-ghost use Rattle.module_passes.specs.Owned.{expression_of, statement_of, block_of_all};
+ghost use Rattle.std.specs.Prelude.{◌≡◌, [], ◌∷◌, IfOk, map, reverse};
+ghost use Rattle.module_calls.specs.Tails.{always, always_in, choice_before, followed, tailed_all, tailed_function, tails};
+ghost use Rattle.module_passes.specs.Owned.{expression_of, statement_of, block_of_all, function_of};
 ghost use Rattle.module_passes.specs.BeforeRest.{before_rest};
 
-use crate::trees::{Expr, Stmt};
+use crate::trees::{Expr, Function, Stmt};
 use gr_base::Memory;
 use std::alloc::Global;
 
@@ -122,4 +122,29 @@ pub fn tails(alloc: Global, statements: Vec<Stmt>) -> Result<Vec<Stmt>, Memory>
     }
     rest.reverse();
     Ok(rest)
+}
+
+fn tailed_function(alloc: Global, function: Function) -> Result<Function, Memory>
+    ensures { IfOk result (λ made. function_of made ≡ tailed_function (function_of function)) }
+{
+    let body = tails(alloc, function.body)?;
+    Ok(Function {
+        name: function.name,
+        returns_word: function.returns_word,
+        parameters: function.parameters,
+        body,
+    })
+}
+
+/// Functions with their returns at the ends of their bodies. The only error is that memory ran out.
+pub fn tailed(alloc: Global, functions: Vec<Function>) -> Result<Vec<Function>, Memory>
+    ensures { IfOk result (λ made. map function_of made.items ≡ tailed_all (map function_of functions.items)) }
+{
+    let mut left = functions;
+    let mut made = Vec::new(alloc);
+    while let Some(function) = left.pop() {
+        made.push(tailed_function(alloc, function)?)?;
+    }
+    made.reverse();
+    Ok(made)
 }

@@ -36,3 +36,19 @@ pub enum Stmt {
     Call(Name, Vec<Expr>),
     Block(Vec<Stmt>),
 }
+
+/// A parameter: a word, or another name for an array of the caller.
+#[derive(Debug, Drop)]
+pub enum Parameter {
+    Word(Option<Label>, Name),
+    Array(Name),
+}
+
+/// A function: its name, whether it returns a word, its parameters, and its body.
+#[derive(Debug, Drop)]
+pub struct Function {
+    pub name: Name,
+    pub returns_word: bool,
+    pub parameters: Vec<Parameter>,
+    pub body: Vec<Stmt>,
+}
