@@ -120,7 +120,7 @@ none_before size turn j words true =
     omega (arith, same)
 none_before size turn j words false = refl
 
--- an item in front, which has the number j where it is one
+-- an item in front, which has the number j if it is one
 turned : (b : Bool) (first taken_all took left_all rest : ℕ) (last : ℕ → ℕ) (j n : ℕ) → taken_all ≡ took + last (j + 1 + n)
     → left_all ≡ rest + last (j + n)
     → cond b (first + taken_all) left_all ≡ cond b (first + took) rest + last (j + (cond b 1 0 + n))

@@ -1,4 +1,4 @@
--- What lacks room first is what the program is refused for, and nothing lacks it exactly where there is room.
+-- A program is rejected for what lacks room first. Nothing lacks room exactly if the program has room.
 use Rattle.std.proofs.Common.{◌≡◌, ℕ, zero, suc, ◌+◌, ◌%◌, ◌^◌, ◌<◌, ◌≤◌, nat_lt, Bool, true, false, cond, List, [], ◌∷◌, ◌++◌, length, get_or, Option, Some, None, refl, sym, ap, ◌∙◌, subst, arith}
 use Rattle.std.specs.Prelude.{nat_le, ◌&&◌, not, ◌||◌, count_by, sum_by, is_none}
 use Rattle.std.proofs.lemmas.Bool.{ltb-true, ltb-false, le-leb}

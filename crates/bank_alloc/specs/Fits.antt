@@ -14,6 +14,7 @@ abbrev pub scalars_of : Label → Source → ℕ
 scalars_of label p = count_by (is_scalar label) p.decls
 
 -- the scalars of each label fit one block
+-- Rule: source/scalars.
 pub record ScalarsFit (p : Source) (w : ℕ) : Type 0 where
   pub public : scalars_of Public p ≤ 2 ^ w
   pub secret : scalars_of Secret p ≤ 2 ^ w
@@ -27,12 +28,13 @@ pub record Fits (p : Source) (w : ℕ) : Type 0 where
   pub banks : BanksFitBelow p w (bank_count (places_of p w))
 
 -- a bank needs more than its limit, and none below it does
+-- Rule: source/bank.
 pub record IsFirstFull (p : Source) (w : ℕ) (bank : ℕ) : Type 0 where
   pub full : most_blocks bank < blocks_needed p w bank
   pub first : BanksFitBelow p w bank
 
--- What lacks room first, where a relation says which bank is the first that does: the public scalars come first, then the
--- secret ones, then the banks from the lowest. Want of memory says nothing.
+-- What lacks room first, where a relation says which bank is the first that does: the public scalars come first, then
+-- the secret ones, then the banks from the lowest. Running out of memory says nothing about the program.
 abbrev pub LacksRoom : (ℕ → Type 0) → Source → ℕ → PlaceError → Type 0
 LacksRoom IsFirst p w (TooManyScalars Public) = 2 ^ w < scalars_of Public p
 LacksRoom IsFirst p w (TooManyScalars Secret) = (scalars_of Public p ≤ 2 ^ w) × (2 ^ w < scalars_of Secret p)

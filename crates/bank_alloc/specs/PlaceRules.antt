@@ -1,4 +1,6 @@
 -- The place of each variable of a program, by the variables that are declared before it. (This project's profile.)
+-- why: these rules are here and not in `src_tree`, since they need the limits of objects, and `src_tree` doesn't know
+-- the machine.
 use Rattle.std.specs.Prelude.{◌≡◌, ℕ, ◌+◌, ◌%◌, ◌^◌, ◌<◌, Bool, true, false, ◌==◌, if◌then◌else◌, List, [], ◌∷◌, length, take, min, sum_by, count_by, slice_index_or}
 use Rattle.src_tree.specs.declared.trees.Decl.{Decl}
 use Rattle.src_tree.specs.Trees.{Source}

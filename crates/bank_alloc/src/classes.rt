@@ -62,7 +62,8 @@ fn classes_in<'a>(
     Ok(classes)
 }
 
-/// The class of each variable of a well-typed program, in order of declaration. The only error is want of memory.
+/// The class of each variable of a well-typed program, in order of declaration. The only error is running out of
+/// memory.
 pub fn classes_of(alloc: Global, p: &Program) -> Result<Vec<Class>, Memory>
     requires typed { IsTyped (source_of p.now) }
     ensures { IfOk result

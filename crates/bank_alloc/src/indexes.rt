@@ -119,7 +119,7 @@ fn walk_block<'a>(
 }
 
 /// The names of the arrays with a secret index in some statements, where `names` has the label of each variable. The
-/// only error is want of memory.
+/// only error is running out of memory.
 pub(crate) fn indexed_in<'a>(
     alloc: Global,
     names: &Names<'a>,

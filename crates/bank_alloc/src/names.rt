@@ -7,7 +7,7 @@ use src_tree::{Decl, Names, shape_of};
 use std::alloc::Global;
 use std::collections::BTreeMap;
 
-/// The label and the shape of each declared name. The only error is want of memory.
+/// The label and the shape of each declared name. The only error is running out of memory.
 #[tactic(auto, using(crate::proofs::KnownNames::one_more))]
 pub(crate) fn gather<'a>(alloc: Global, decls: &'a [Decl]) -> Result<Names<'a>, Memory>
     requires { DeclaredOnce decls.now }

@@ -161,7 +161,7 @@ pub fn words_of(decl: &Decl) -> u32
 }
 
 /// The places of variables, in order of declaration, where the arrays with a secret index are given and a block has
-/// `size` words. The only error is want of memory.
+/// `size` words. The only error is running out of memory.
 #[tactic(auto, using(crate::proofs::PlacedBehind::few_more))]
 pub(crate) fn places_in<'a>(
     alloc: Global,
@@ -196,7 +196,7 @@ fn bank_count(places: &[Place]) -> u8
 }
 
 /// The number of blocks of each bank, if variables are stored at some places and a block has `size` words. The only
-/// error is want of memory.
+/// error is running out of memory.
 pub(crate) fn blocks_of_banks(
     alloc: Global,
     size: u32,

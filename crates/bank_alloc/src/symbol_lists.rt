@@ -67,7 +67,7 @@ fn sort(symbols: &mut Vec<Symbol>) -> Result<(), Memory>
 
 /// The symbols of an object that a program is compiled to: one for each variable, with its name, label, shape, length
 /// and place, in order of bank and place. A block has 2^w words, each variable is within its bank, and no two share a
-/// word, as [`crate::banks`] places them. The only error is want of memory.
+/// word, as [`crate::banks`] places them. The only error is running out of memory.
 pub fn symbols(alloc: Global, p: &Program, w: u8, places: &Places) -> Result<Vec<Symbol>, Memory>
     requires typed { IsTyped (source_of p.now) }
     requires within { IsWithinLimits (source_of p.now) }

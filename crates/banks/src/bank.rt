@@ -42,6 +42,8 @@ pub trait Bank {
     ghost width: { Self → ℕ };
 
     /// The paths that accesses to these blocks will show, from now on and in this order: one entry for each access.
+    /// why: for every list of block numbers, even of blocks that the bank doesn't have, so it needs no premise. Only
+    /// accesses to blocks that it has are made.
     ghost shows: { Self → List ℕ → List Leaves };
 
     /// Whether accesses to these blocks, in this order, can change the first bank into the second.

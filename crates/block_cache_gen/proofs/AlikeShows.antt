@@ -1,4 +1,4 @@
--- Alike expressions, and assignments that pair, show the same in secret code and leave the same in the slots.
+-- Alike expressions, and assignments that pair, show the same events in secret code and leave the same in the slots.
 use Rattle.std.proofs.Common.{length, suc, ◌≡◌, ℕ, ◌≤◌, ◌==◌, Bool, true, false, not, ◌&&◌, ℤ, pos, List, [], ◌∷◌, ◌++◌, Option, Some, None, refl, sym, ap, ◌∙◌, arith}
 use Rattle.std.specs.Prelude.{if◌then◌else◌, is_some}
 use Rattle.std.proofs.lemmas.Bool.{le-ltb, ne_eqb}

@@ -299,7 +299,7 @@ module _ (o : Parts) (f : Setting) (homes : HasHomes o f) (depth : ℕ) where
   reduced-leaves s to from h index carries inside apart held =
       number-applied s (reducing h) to from (to + 1) (reducer h) index carries (omega arith) (omega arith) apart held
 
-  -- so it is, unless it is the number of the word
+  -- the index is reduced, unless it is the number of the word already
   numbered-leaves : (s : SymState) (to from : ℕ) (h : Home) (index : Option Value) → CarriesInArm f s
       → to + 2 < first_kept f
       → from ≢ to + 1 → tree_held s from ≡ index → (within : Bool)

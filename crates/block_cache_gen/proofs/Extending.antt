@@ -73,7 +73,7 @@ extends f banks mode weight code noted a b some pins x few few_notes fits rise r
       silent = silent_in mode notes;
     }
 
--- so does the code of an expression
+-- the code of an expression extends the code before it
 pub expr_extends : (f : Setting) (banks : ℕ) (mode : Mode) (to : ℕ) (e : Tree) (a b : CodeBuf)
     → 2 ≤ banks → HomesFit banks f → TypedTree (context_of f.decls) e → to + height_of e ≤ room_of f → HasWords e
     → length a.code.items + 120 * tree_weight e ≤ most_instructions → EmitsExpr f mode (base_mask f) to e a b

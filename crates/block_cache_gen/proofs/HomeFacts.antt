@@ -51,7 +51,7 @@ served_bank (PlainSlot slot within) few = inl (within, refl)
 served_bank (EncryptedSlot slot within) few = inr (within, refl)
 served_bank (ObliviousSlot bank least) few = absurd (omega arith)
 
--- it is one
+-- a slot from 2 to 5 serves only one bank
 pub served-one : (slot a b : ℕ) → bank_served slot a → bank_served slot b → a ≡ b
 served-one slot a b (inl p) (inl q) = p.1 ∙ sym q.1
 served-one slot a b (inl p) (inr q) = absurd (omega (arith, p.0, q.0))
@@ -86,7 +86,7 @@ shown-low h shows = by h.resident shows
     by true e = omega (arith, ltb-true h.bank 1 e)
     by false e = ltb-true h.bank 2 e
 
--- The block in which a word of an array is: it is one of the array's and one of its bank.
+-- The block in which a word of an array is: a slot from 2 to 5 serves only one bank of the array's and one of its bank.
 module _ (o : Parts) (fits : IsInRange o) (f : Setting) (homes : HasHomes o f) (label : Label) (h : Home)
     (home : IsArrayHome o f label h) where
   pub block-split : (n : ℕ)
@@ -95,7 +95,7 @@ module _ (o : Parts) (fits : IsInRange o) (f : Setting) (homes : HasHomes o f) (
       let w = words_a_block f in
       omega (arith, add-mul h.block (n / w) w, div-add-mod' n w)
 
-  -- it is one of the array's blocks
+  -- a slot from 2 to 5 serves only one bank of the array's blocks
   pub block-of : (n : ℕ) → n < h.length → IsBlockOf (words_a_block f) h (h.block + n / words_a_block f)
   block-of n within = record { begins = omega (arith, block-split n); behind = omega arith }
 

@@ -1,4 +1,4 @@
--- A branch on a secret in an arm, whose own two ways show the same and leave the same in the slots.
+-- A branch on a secret in an arm, whose own two paths show the same events and leave the same in the slots.
 use Rattle.std.proofs.Common.{◌≡◌, ℕ, ◌+◌, ◌<◌, pos, List, length, Option, sym, ◌∙◌}
 use Rattle.std.specs.Option.{unwrap_or}
 use Rattle.gr_word.specs.declared.operations.Cmp.{Cmp}
@@ -39,7 +39,7 @@ module _ (o : Parts) (f : Setting) (depth : ℕ) (s : SymState) (cmp : Cmp) (ra 
   joined-slots k =
       common-held one.state other.state k (unwrap_or (loads k) (slot_held s k)) (one.slots k) (other.slots k)
 
-  -- it is crossed
+  -- the region is crossed
   pub region-crossed : (p : ℕ) → StandsInArm o p (region_code cmp ra rb first second)
       → CrossesTo o depth (p + length (region_code cmp ra rb first second)) p (pos (length first + 2)) s
       (pattern_of shows) (p + length (region_code cmp ra rb first second)) (common one.state other.state)
@@ -47,7 +47,7 @@ module _ (o : Parts) (f : Setting) (depth : ℕ) (s : SymState) (cmp : Cmp) (ra 
       region-crosses o depth around s cmp ra rb first second xs ys shows one.state other.state one.walked other.walked
       one_way other_way p
 
-  -- and the setting is carried at its join
+  -- the setting is carried at the join of the region
   pub joined-carries : CarriesInArm f (common one.state other.state)
   joined-carries =
       let sized = sized-common one.state other.state (carries-sized f one.state one.carries)

@@ -1,5 +1,5 @@
--- Which expressions and statements show the same in secret code, so that two of them may stand at one place of the two
--- arms of a branch on a secret, and how many statements of two parts pair. (This project's own padding.)
+-- Which expressions and statements show the same events in secret code, so that two of them may be at one place of the
+-- two arms of a branch on a secret, and how many statements of two parts pair. (This project's own padding.)
 use Rattle.std.specs.Prelude.{length, ◌≡◌, ℕ, ◌+◌, ◌<◌, ◌≤◌, ℤ, Bool, true, false, not, ◌&&◌, ◌||◌, ◌==◌, nat_le, nat_lt, is_some, if◌then◌else◌, pos, List, bytes_eq}
 use Rattle.std.specs.Ordering.{int_eq}
 use Rattle.gr_word.specs.declared.operations.Op.{Op}
@@ -81,7 +81,7 @@ pub data Pair (f : Setting) : Statement → Statement → Type 0 where
   ToSame : (x : List ℕ) (i e g : Tree) → (home_of f x).bank ≡ 1 → Alike f e g
       → Pair f (SetElement x i e) (SetElement x i g)
 
--- so many first statements of two parts pair
+-- this many of the first statements of two parts pair
 pub data StartsPaired (f : Setting) : ℕ → Block → Block → Type 0 where
   NonePaired : (a b : Block) → StartsPaired f 0 a b
   OnePaired : (k : ℕ) (s t : Statement) (a b : Block)

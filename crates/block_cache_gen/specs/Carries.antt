@@ -15,6 +15,7 @@ use Rattle.block_cache_gen.specs.Homes.{Pin, Setting, held_label, pin_at, home_o
 -- in public code, where something is known of as many registers and slots as the machine has: each pinned slot has the
 -- bank of its block, slots 2 to 5 the banks of the arrays that they serve in turn, and each register that holds a scalar
 -- or a number its label
+-- why: as many registers and slots as the machine has; otherwise a walk from there wouldn't preserve it.
 pub record Carries (f : Setting) (known : Known) : Type 0 where
   pub registers : length known.secret ≡ 32
   pub slots : length known.banks ≡ 8

@@ -31,8 +31,8 @@ pub record Home : Type 0 where
   pub more : List ℕ
 
 -- The declarations with a home for each, in order; the number of blocks of each bank; the pin of each slot, none where
--- it holds other blocks in turn; the machine's profile; whether an operation by a number is replaced by steps; and what
--- is known of the store at the place of the code.
+-- it holds other blocks in turn; the machine's profile; whether an operation with a constant is replaced by steps; and
+-- what is known of the store at the place of the code.
 pub record Setting : Type 0 where
   pub decls : List Decl
   pub homes : List Home

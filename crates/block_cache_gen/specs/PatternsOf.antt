@@ -157,7 +157,7 @@ then_loads first rest slot = option_or (rest slot) (first slot)
 abbrev pub one_load : ℕ → SymSlot → Loads
 one_load to bound slot = if slot == to then Some bound else None
 
--- the loads of an index, none where it is a number that needs no code
+-- the loads of an index, none if it is a number that needs no code
 abbrev pub index_loads : Option ℤ → Loads → Loads
 index_loads (Some z) loads = no_loads
 index_loads None loads = loads

@@ -1,6 +1,6 @@
--- What the code of expressions, guards and assignments does where it is run.
--- (GhostRider, ASPLOS 2015: compiled code computes what the source means, with the scratchpad as a cache; the events
--- and the bound on cycles are this project's profile.)
+-- What the code of expressions, guards and assignments does when it is run. (GhostRider, ASPLOS 2015: compiled code
+-- computes what the source means, with the scratchpad as a cache; the events and the bound on cycles are this project's
+-- profile.)
 use Rattle.std.specs.Prelude.{ℕ, List}
 use Rattle.lt_isa.specs.declared.instructions.Instr.{Instr}
 use Rattle.lt_isa.specs.Object.{Parts}

@@ -8,7 +8,7 @@ use Rattle.block_cache_gen.specs.Homes.{Pin, Setting, pin_at}
 abbrev pub block_served : Setting → ℕ → Option ℕ
 block_served f slot = option_map (λ h. h.block) (find (λ h. h.slot == slot) f.homes)
 
--- a block of this bank, where there is one
+-- a block of this bank, if there is one
 abbrev pub pin_in : (bank : ℕ) → Option ℕ → Option Pin
 pin_in bank None = None
 pin_in bank (Some block) = Some (record { bank = bank; block = block })

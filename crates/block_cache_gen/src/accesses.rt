@@ -187,7 +187,7 @@ pub(crate) fn fixed_word(array: Variable, index: i64) -> u64
     index.cast_unsigned() % u64::from(array.place.length)
 }
 
-/// Appends the copy of a value of a label: a sum with the zero of that label. The only error is want of memory.
+/// Appends the copy of a value of a label: a sum with the zero of that label. The only error is running out of memory.
 pub(crate) fn put_copy(out: &mut CodeBuf, label: Label, to: u8, from: u8) -> PutResult
     ensures appended { OnOk result (Appended out.old out.new (copy_code label to from) no_notes) }
     ensures grows { CodeGrows out.old out.new }
@@ -204,7 +204,8 @@ pub(crate) fn put_copy(out: &mut CodeBuf, label: Label, to: u8, from: u8) -> Put
     }])
 }
 
-/// Appends the load of a scalar's word into a register: a copy of the register that holds it, or a read of its slot. The only error is want of memory.
+/// Appends the load of a scalar's word into a register: a copy of the register that holds it, or a read of its slot.
+/// The only error is running out of memory.
 pub(crate) fn put_scalar(out: &mut CodeBuf, scalar: Variable, to: u8) -> PutResult
     ensures appended { OnOk result (Appended out.old out.new (scalar_code scalar.held (home_in scalar) to) no_notes) }
     ensures grows { CodeGrows out.old out.new }
@@ -289,7 +290,7 @@ fn put_offset(emitter: &Emitter<'_, '_, '_>, out: &mut CodeBuf, index: Indexed) 
 }
 
 // Appends the load of the block that the next register names into the array's slot: in public code only where it isn't
-// there, with a note. The only error is want of memory.
+// there, with a note. The only error is running out of memory.
 fn put_load(emitter: &Emitter<'_, '_, '_>, out: &mut CodeBuf, access: Access) -> PutResult
     requires registers { access.to + 2 < 28 }
     requires room { length out.old.code.items + 3 < 2 ^ 32 }
@@ -349,7 +350,7 @@ fn put_block(emitter: &Emitter<'_, '_, '_>, out: &mut CodeBuf, array: Variable, 
     )
 }
 
-/// Appends the code of an access whose index is a number. The only error is want of memory.
+/// Appends the code of an access whose index is a number. The only error is running out of memory.
 pub(crate) fn put_fixed_access(
     emitter: &Emitter<'_, '_, '_>,
     out: &mut CodeBuf,
@@ -372,7 +373,7 @@ pub(crate) fn put_fixed_access(
 }
 
 /// Appends the part of the code of an access that follows the code of its index, which is in register `from`. The only
-/// error is want of memory.
+/// error is running out of memory.
 pub(crate) fn put_found_access<'a>(
     emitter: &Emitter<'a, '_, '_>,
     out: &mut CodeBuf,

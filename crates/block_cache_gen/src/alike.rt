@@ -254,7 +254,7 @@ fn targets_alike<'a>(emitter: &Emitter<'a, '_, '_>, x: &'a Name, y: &'a Name) ->
     same_flag(one.is_some(), other.is_some())
 }
 
-// Whether two expressions show the same in secret code.
+// Whether two expressions show the same events in secret code.
 fn is_alike<'a>(emitter: &Emitter<'a, '_, '_>, e: &'a Expr, other: &'a Expr) -> bool
     requires first { TypedTree (context_of emitter.now.decls) (expr_tree e.now) }
     requires second { TypedTree (context_of emitter.now.decls) (expr_tree other.now) }
@@ -291,7 +291,7 @@ fn is_alike<'a>(emitter: &Emitter<'a, '_, '_>, e: &'a Expr, other: &'a Expr) -> 
     }
 }
 
-// Whether two assignments show the same in secret code.
+// Whether two assignments show the same events in secret code.
 fn is_pair<'a>(emitter: &Emitter<'a, '_, '_>, s: &'a Stmt, other: &'a Stmt) -> bool
     requires first { (code : Label) × TypedStatement (context_of emitter.now.decls) code (statement_of s.now) }
     requires second { (code : Label) × TypedStatement (context_of emitter.now.decls) code (statement_of other.now) }
@@ -323,7 +323,7 @@ fn is_pair<'a>(emitter: &Emitter<'a, '_, '_>, s: &'a Stmt, other: &'a Stmt) -> b
 }
 
 /// How many statements of two parts of a branch on a secret pair, from the first of each on: each such two show the
-/// same in secret code.
+/// same events in secret code.
 pub fn pair_count<'a>(emitter: &Emitter<'a, '_, '_>, first: &'a [Stmt], second: &'a [Stmt]) -> usize
     requires first { (code : Label) × TypedBlock (context_of emitter.now.decls) code (block_of_all first.now) }
     requires second { (code : Label) × TypedBlock (context_of emitter.now.decls) code (block_of_all second.now) }

@@ -27,8 +27,8 @@ use src_tree::{Expr, Guard, Stmt};
 use std::alloc::Global;
 
 /// Makes the code of an expression of a program, and appends it and its notes. Run from its first instruction in a
-/// state that represents a store, it ends just past its last, with the expression's value in register `to`. After want
-/// of memory what was there before is still a prefix. The clause `words` serves the proofs of callers.
+/// state that represents a store, it ends just past its last, with the expression's value in register `to`. If memory
+/// runs out, what was there before is still a prefix. The clause `words` serves the proofs of callers.
 pub fn emit_expr<'a>(
     alloc: Global,
     f: &Frame<'a>,
@@ -61,7 +61,7 @@ pub fn emit_expr<'a>(
 }
 
 /// Makes the code of a guard of a program, and appends it and its notes. It leaves the guard's two sides in register
-/// `to` and the next. After want of memory what was there before is still at the front. The clause `words` serves the
+/// `to` and the next. If memory runs out, what was there before is still at the front. The clause `words` serves the
 /// proofs of callers.
 pub fn emit_guard<'a>(
     alloc: Global,
@@ -97,9 +97,9 @@ pub fn emit_guard<'a>(
 
 /// Makes the code of an assignment of a program, and appends it and its notes. In public code, and with its effect in
 /// secret code, it leaves the store of the assignment; without effect in secret code it leaves the store as it was. The
-/// two codes of secret code differ only in the registers that they store or write, of which there is one unless slots hold
-/// several blocks of an array for the whole run ([`twin_laws`](crate::twin_laws)). After want of memory what was there
-/// before is still a prefix. The clause `words` serves the proofs of callers.
+/// two codes of secret code differ only in the registers that they store or write, of which there is one unless slots
+/// hold several blocks of an array for the whole run ([`twin_laws`](crate::twin_laws)). If memory runs out, what was
+/// there before is still a prefix. The clause `words` serves the proofs of callers.
 #[tactic(auto, using(crate::proofs::AssignmentsMean::assignment_means))]
 pub fn emit_set<'a>(
     alloc: Global,

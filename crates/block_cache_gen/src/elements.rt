@@ -64,7 +64,8 @@ fn put_selected_read(
     out.put(&code)
 }
 
-/// Appends the code that reads the word of an array whose number is in register `to`. The only error is want of memory.
+/// Appends the code that reads the word of an array whose number is in register `to`. The only error is running out of
+/// memory.
 pub(crate) fn put_element<'a>(
     emitter: &Emitter<'a, '_, '_>,
     out: &mut CodeBuf,
@@ -174,7 +175,7 @@ fn put_stored_among(
 }
 
 /// Appends the store of the word in register `value`, where register 1 has the number of the word of an array, and the
-/// store of its block, unless slots hold the array for the whole run. The only error is want of memory.
+/// store of its block, unless slots hold the array for the whole run. The only error is running out of memory.
 pub(crate) fn put_stored<'a>(
     emitter: &Emitter<'a, '_, '_>,
     out: &mut CodeBuf,

@@ -20,7 +20,7 @@ use lt_isa::Instr;
 use src_tree::Expr;
 
 /// Appends what leaves the value of an expression in register `to`. The mask says which registers may be secret in its
-/// notes. The only error is want of memory.
+/// notes. The only error is running out of memory.
 #[cycle(expressions)]
 pub(crate) fn put_expr<'a>(
     emitter: &Emitter<'a, '_, '_>,
@@ -66,7 +66,7 @@ pub(crate) fn put_expr<'a>(
 }
 
 /// Appends what leaves an operand in its register: nothing if a register holds it for the whole run. The only error is
-/// want of memory.
+/// running out of memory.
 #[cycle(expressions)]
 pub(crate) fn put_operand<'a>(
     emitter: &Emitter<'a, '_, '_>,
@@ -92,7 +92,7 @@ pub(crate) fn put_operand<'a>(
 }
 
 /// Appends what makes of the left side of an operation, in register `left`, the result in register `to`: the steps that
-/// replace the operation, or the code of the right side and the operation. The only error is want of memory.
+/// replace the operation, or the code of the right side and the operation. The only error is running out of memory.
 #[cycle(expressions)]
 pub(crate) fn put_operation<'a>(
     emitter: &Emitter<'a, '_, '_>,
@@ -130,8 +130,8 @@ pub(crate) fn put_operation<'a>(
     }
 }
 
-/// Appends what leaves the number of the word of an array that an index names in register `to`, and its block in the
-/// array's slot. The only error is want of memory.
+/// Appends code that leaves the number of an element's word in register `to`, and the element's block in the array's
+/// slot. The only error is running out of memory.
 #[cycle(expressions)]
 pub(crate) fn put_access<'a>(
     emitter: &Emitter<'a, '_, '_>,

@@ -75,7 +75,7 @@ pub enum Mode {
     Mirrored,
 }
 
-/// What appending code returns: the only error is want of memory.
+/// What appending code returns: the only error is running out of memory.
 pub(crate) type PutResult = Result<(), Memory>;
 
 /// Code that is being made, and its notes, in order of place.

@@ -40,7 +40,7 @@ pub(crate) struct Indexed {
     pub mask: u32,
 }
 
-/// Appends a note after the code so far. The only error is want of memory.
+/// Appends a note after the code so far. The only error is running out of memory.
 pub(crate) fn put_note_behind(
     emitter: &Emitter<'_, '_, '_>,
     out: &mut CodeBuf,
@@ -68,7 +68,7 @@ pub(crate) fn numbered_register(numbering: Numbering, to: u8, from: u8) -> u8
     }
 }
 
-/// Appends what leaves the number of the word that an index names. The only error is want of memory.
+/// Appends code that leaves the number of the word that an index names. The only error is running out of memory.
 pub(crate) fn put_numbered(
     emitter: &Emitter<'_, '_, '_>,
     out: &mut CodeBuf,
@@ -139,7 +139,7 @@ fn put_compared(emitter: &Emitter<'_, '_, '_>, out: &mut CodeBuf, index: Indexed
 }
 
 /// Appends an operation on a register and a number, whose result is in register `to`. If no register holds the number
-/// for the whole run, it is loaded into register `own` first. The only error is want of memory.
+/// for the whole run, it is loaded into register `own` first. The only error is running out of memory.
 pub(crate) fn put_applied(
     emitter: &Emitter<'_, '_, '_>,
     out: &mut CodeBuf,

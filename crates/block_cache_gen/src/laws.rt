@@ -23,7 +23,8 @@ pub fn home_laws()
 {}
 
 /// Does nothing; its clauses say what it means that statements of two parts pair. As many pair as are counted, and no
-/// more. Alike expressions, and statements that pair, show the same in secret code and leave the same in the slots.
+/// more. Alike expressions, and statements that pair, show the same events in secret code and leave the same in the
+/// slots.
 pub fn pair_laws()
     ensures counts { (f : Setting) (a b : Block) → IsPairCount f a b (pair_count f a b) }
     ensures alike { (o : Parts) (f : Setting) (e g : Tree)

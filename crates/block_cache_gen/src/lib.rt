@@ -4,11 +4,10 @@
 //! to a [`CodeBuf`], for public code or for an arm of a branch on a secret ([`Mode`]). Run anywhere in an object that
 //! has the frame's layout ([`home_laws`]), the code leaves the value, the sides or the store that it means, within its
 //! greatest costs, and shows the accesses of `specs/Accesses` (`runs`). The check passes it in public code (`passes`)
-//! and walks it in an arm (`walked`), where it shows the same in every state. It is short and in its ranges
+//! and walks it in an arm (`walked`), where it shows the same events in every state. It is short and in its ranges
 //! (`extends`). These calls take a [`Frame`]. A [`FastFrame`] has what `--fast` adds to it. A [`Prepared`] is a
 //! [`FastFrame`] made ready for many calls, and an [`Emitter`] has with it what is known of scalars at the place of the
-//! code. [`pair_count`] is the number of first statements of two parts that show the same
-//! ([`pair_laws`]).
+//! code. [`pair_count`] is the number of first statements of two parts that show the same events ([`pair_laws`]).
 #![tactic(auto)]
 
 mod accesses;

@@ -176,7 +176,7 @@ pub fn put_set_element<'a>(
     put_stored(emitter, out, array, index, operand_register(held, 0), mode)
 }
 
-/// Appends the code of an assignment, to a variable or to an element. The only error is want of memory.
+/// Appends the code of an assignment, to a variable or to an element. The only error is running out of memory.
 pub(crate) fn put_set<'a>(
     emitter: &Emitter<'a, '_, '_>,
     out: &mut CodeBuf,

@@ -33,8 +33,8 @@ pub(crate) fn may_step<'a>(emitter: &Emitter<'a, '_, '_>, op: Op, right: &'a Exp
     }
 }
 
-/// The code of the steps that replace an operation with this right side, if there are any. The only error is want of
-/// memory.
+/// The code of the steps that replace an operation with this right side, if there are any. The only error is running
+/// out of memory.
 pub(crate) fn steps_code<'a>(
     emitter: &Emitter<'a, '_, '_>,
     op: Op,

@@ -97,7 +97,7 @@ fn four_slots(pins: &[Option<Pin>], place: Place) -> [u8; 4]
 }
 
 /// The variables of declarations, each with its place and its slot. The first declaration of a name counts. The only
-/// error is want of memory.
+/// error is running out of memory.
 pub(crate) fn gather<'a>(
     alloc: Global,
     decls: &'a [Decl],

@@ -18,7 +18,7 @@ use Rattle.branch_padding.specs.Prelude.{most_slack, quiet_cycles, slack_by, sla
 use Rattle.branch_padding.proofs.QuietCode.{same_number, added-parts, object_of, homes-in, IsQuiet, quiet-none, quiet-then, quiet-code}
 use Rattle.block_cache_gen.specs.declared.frames.Mode.TheVariants as modes
 
--- With what they idle, both ways take the same cycles, and neither idles long.
+-- With what they idle, both paths take the same cycles, and neither idles long.
 pub record IsSlack (x y : Option ℕ) (slack : Slack) : Type 0 where
   pub one : ℕ
   pub two : ℕ

@@ -33,7 +33,7 @@ arm-secret modes.Real = refl
 arm-secret modes.Mirrored = refl
 
 module _ (o : Parts) (f : Setting) (homes : HasHomes o f) where
-  -- statements that pair show the same and leave the same
+  -- statements that pair show the same events and leave the same
   abbrev AreSame : Statement → Statement → Type 0
   AreSame s t = (shows_of f s ≡ shows_of f t) × (slots_of f s ≡ slots_of f t)
 
@@ -186,7 +186,7 @@ module _ (o : Parts) (f : Setting) (homes : HasHomes o f) where
       ∙ (λ k. joined (quiet.shown k) ((pattern_of-pause more ∙ pattern_of-alone (Gap more)) k))
       ∙ gaps-joined n more
 
-  -- from a state, both arms of a branch go, and both ways show the same
+  -- from a state, both arms of a branch go, and both paths show the same events
   pub record ArmsGo (mode : Mode) (depth : ℕ) (a b : Block) (s : SymState) (slack : Option Slack) : Type 0 where
     pub xs : List Show
     pub ys : List Show

@@ -1,5 +1,5 @@
--- What code is made for at each place of a block of public code: at the block's beginning, but with the ranges of
--- scalars that are known there. (This project's compiler.)
+-- The setting for which code is made at each place of a block of public code: the setting at the beginning of the
+-- block, with the ranges of scalars that are known at that place. (This project's compiler.)
 use Rattle.gr_word.specs.declared.variables.Label.{Label}
 use Rattle.gr_word.specs.declared.variables.Label.TheVariants.{Public, Secret}
 use Rattle.src_tree.specs.Trees.{Test, Statement, Block}

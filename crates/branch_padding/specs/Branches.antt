@@ -1,5 +1,5 @@
--- What the call that makes the code of a branch on a secret asks of it, and what it says of that code.
--- (GhostRider, ASPLOS 2015: the arms of a branch on a secret are padded so that both show the same.)
+-- What the call that makes the code of a branch on a secret asks of it, and what it says of that code. (GhostRider,
+-- ASPLOS 2015: the arms of a branch on a secret are padded so that both show the same events.)
 use Rattle.std.specs.Prelude.{◌≡◌, ℕ, List}
 use Rattle.gr_word.specs.declared.variables.Label.{Label}
 use Rattle.lt_isa.specs.declared.instructions.Instr.{Instr}

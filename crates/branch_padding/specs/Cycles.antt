@@ -1,6 +1,7 @@
--- Which branches on a secret are quiet, and how many cycles each of their ways idles. With `--fast`, a branch whose arms
--- show no event isn't padded by the other arm's instructions: the shorter way idles, if the difference is small.
--- (GhostRider, ASPLOS 2015: arms are padded so that both show the same; when they idle is this project's own choice.)
+-- Which branches on a secret are quiet, and how many cycles each of their paths idles. With `--fast`, a branch whose
+-- arms show no event isn't padded by the other arm's instructions: the shorter path idles, if the difference is small.
+-- (GhostRider, ASPLOS 2015: arms are padded so that both show the same events; when they idle is this project's own
+-- choice.)
 use Rattle.std.specs.Prelude.{ℕ, ◌+◌, ◌-◌, ◌^◌, Bool, true, false, ◌&&◌, nat_lt, nat_le, if◌then◌else◌, List, [], ◌∷◌, Option, Some, None}
 use Rattle.lt_isa.specs.declared.profiles.Profile.{Profile}
 use Rattle.lt_isa.specs.declared.instructions.Instr.{Instr}
@@ -39,8 +40,8 @@ quiet_cycles p (i ∷ code) = added (quiet_cost p i) (quiet_cycles p code)
 abbrev pub most_slack : ℕ
 most_slack = 50
 
--- How long each way of a branch idles, by the cycles of its two blocks. The way that isn't taken costs one cycle more:
--- that of the branch.
+-- How long each path of a branch idles, by the cycles of its two blocks. The path that isn't taken costs one cycle
+-- more: that of the branch.
 abbrev pub slack_by : (first second : ℕ) → Option Slack
 slack_by first second =
     if nat_le (first - (1 + second)) most_slack && nat_le ((1 + second) - first) most_slack
@@ -73,6 +74,6 @@ abbrev mutual
   cycles_of_all f Nothing = Some 0
   cycles_of_all f (Then s rest) = added (cycles_of f s) (cycles_of_all f rest)
 
--- how long each way of the branch of two blocks idles, none if it isn't quiet
+-- how long each path of the branch of two blocks idles, none if it isn't quiet
 abbrev pub slack_of : Setting → Block → Block → Option Slack
 slack_of f a b = slack_between f.reduces (cycles_of_all f a) (cycles_of_all f b)

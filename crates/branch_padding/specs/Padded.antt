@@ -1,8 +1,8 @@
 -- For proofs, and for a function that code_gen builds on: the instructions that are made of a branch on a secret, and
--- of all secret code. One region has two arms that show the same: the first statements that pair are side by side; of
--- the rest each arm has both parts, its own with its effect and the other mirrored. Idle instructions make up for the
--- cycles of the branch and of the jump. If the branch is quiet, each arm has only its own part, and the shorter way
--- idles. (This project's own padding.)
+-- of all secret code. One region has two arms that show the same events: the first statements that pair are side by
+-- side; of the rest each arm has both parts, its own with its effect and the other mirrored. Idle instructions make up
+-- for the cycles of the branch and of the jump. If the branch is quiet, each arm has only its own part, and the shorter
+-- path idles. (This project's own padding.)
 use Rattle.std.specs.Prelude.{ℕ, ◌+◌, ◌-◌, pos, List, [], ◌∷◌, ◌++◌, length, replicate, take, drop, Option, Some, None}
 use Rattle.gr_word.specs.declared.operations.Cmp.{Cmp}
 use Rattle.lt_isa.specs.declared.instructions.Instr.{Instr}

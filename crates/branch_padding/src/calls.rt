@@ -55,7 +55,7 @@ fn put_branch<'a>(
 /// Makes the code of a branch of a program whose arms are secret code, and appends it and the notes of its guard: in
 /// public code a branch by a secret guard, in secret code any branch. It is one region of two arms, and what both show
 /// and load depends only on the frame and the statement (`region`). In public code, and with its effect in secret code,
-/// it leaves the store of the statement; without effect it leaves the store as it was. After want of memory what was
+/// it leaves the store of the statement; without effect it leaves the store as it was. If memory runs out, what was
 /// there before is still a prefix. The clause `words` serves the proofs of callers.
 pub fn emit_secret_if<'a>(
     alloc: Global,

@@ -193,8 +193,8 @@ fn put_taken<'a>(
     put_idle(out, emitter.taken())
 }
 
-/// Appends the code of a branch whose arms show the same, in code of any mode. In public code its guard is public code.
-/// The only error is want of memory.
+/// Appends the code of a branch whose arms show the same events, in code of any mode. In public code its guard is
+/// public code. The only error is running out of memory.
 #[cycle(padding)]
 pub(crate) fn put_choice<'a>(
     emitter: &Emitter<'a, '_, '_>,
@@ -236,9 +236,9 @@ pub(crate) fn put_choice<'a>(
     Ok(())
 }
 
-/// Appends the code of a branch on a secret in public code: its guard, and one region of two arms that show the same.
-/// It serves `code_gen`: its clause names the code, and [`emit_secret_if`](crate::emit_secret_if) states what that code
-/// does.
+/// Appends the code of a branch on a secret in public code: its guard, and one region of two arms that show the same
+/// events. It serves `code_gen`: its clause names the code, and [`emit_secret_if`](crate::emit_secret_if) states what
+/// that code does.
 pub fn put_secret_if<'a>(
     emitter: &Emitter<'a, '_, '_>,
     out: &mut CodeBuf,

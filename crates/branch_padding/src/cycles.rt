@@ -10,7 +10,7 @@ use gr_word::Op;
 use lt_isa::{Instr, Profile};
 use src_tree::Stmt;
 
-/// How many cycles each way of a quiet branch idles: the way on which the branch isn't taken, and the other. Only the
+/// How many cycles each path of a quiet branch idles: the path on which the branch isn't taken, and the other. Only the
 /// shorter one does.
 #[derive(Clone, Copy)]
 pub struct Slack {
@@ -68,7 +68,7 @@ fn quiet_cycles(profile: &Profile, code: &[Instr]) -> Option<u32>
     cycles
 }
 
-// How long each way of a branch idles if its blocks take these cycles.
+// How long each path of a branch idles if its blocks take these cycles.
 fn slack_by(first: u32, second: u32) -> Option<Slack>
     ensures { result ≡ slack_by first second }
 {
@@ -159,7 +159,7 @@ fn block_cycles<'a>(emitter: &Emitter<'a, '_, '_>, block: &'a [Stmt]) -> Result<
     Ok(cycles)
 }
 
-/// How long each way of the branch of two blocks idles; `None` if it isn't quiet.
+/// How long each path of the branch of two blocks idles; `None` if it isn't quiet.
 pub(crate) fn slack_of<'a>(
     emitter: &Emitter<'a, '_, '_>,
     first: &'a [Stmt],

@@ -47,15 +47,19 @@ pub record ShareFits (s : Share) : Type 0 where
 -- What a plan requires of the share of its next core: a window (in a period of one cycle memory is always open), the
 -- period of the others, an end within the period, and a reach that has no cycle in common with those of this many first
 -- cores.
+-- Rule: bus/window.
 abbrev pub HasWindow : Share → Type 0
 HasWindow s = s.period ≢ 1
 
+-- Rule: bus/period.
 abbrev pub HasPeriodOf : List Share → Share → Type 0
 HasPeriodOf plan s = 0 < length plan → s.period ≡ (share_at plan 0).period
 
+-- Rule: bus/long.
 abbrev pub EndsInPeriod : Share → Type 0
 EndsInPeriod s = end_of s ≤ s.period
 
+-- Rule: bus/overlap.
 abbrev pub IsApartFrom : List Share → ℕ → Share → Type 0
 IsApartFrom plan count s = (k : ℕ) → k < count → Meet (share_at plan k) s → ⊥
 

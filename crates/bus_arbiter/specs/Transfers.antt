@@ -14,6 +14,7 @@ abbrev pub moved_by : ℕ → ℕ → Observed → Transfer
 moved_by core at event = record { core = core; stamp = at; event = event }
 
 -- the transfer that an event of a core is; a halt is none
+-- Rule: bus/access.
 abbrev pub transfer_of : ℕ → ℕ → Observed → List Transfer
 transfer_of core at (RamRead block words) = moved_by core at (RamRead block words) ∷ []
 transfer_of core at (RamWrite block words) = moved_by core at (RamWrite block words) ∷ []

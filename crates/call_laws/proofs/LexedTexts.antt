@@ -1,4 +1,4 @@
--- Each text splits into tokens, or has a first error, and want of memory is none.
+-- Each text splits into tokens, or has a first error, and running out of memory isn't one.
 use Rattle.std.proofs.Common.{ℕ, zero, suc, ◌+◌, ◌<◌, ◌≤◌, Bool, true, false, List, [], ◌∷◌, length, drop, length-drop, Option, Some, None, Ok, Err, arith}
 use Rattle.std.specs.Prelude.{slice_index, if◌then◌else◌}
 use Rattle.std.specs.List.{prefix_len, take_while}
@@ -10,7 +10,7 @@ use Rattle.src_lexer.specs.Prelude.{is_white, LetterRun, Is, Big, Long, Mixed, l
 use Rattle.src_lexer.proofs.FirstPieces.{Allows, found_allows}
 use Rattle.src_lexer.specs.declared.errors.LexError.TheVariants as error
 
--- an error other than want of memory
+-- an error other than running out of memory
 abbrev pub IsTold : LexError → Type 0
 IsTold error.Memory = ⊥
 IsTold _ = Unit {0}

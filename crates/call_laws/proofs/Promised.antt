@@ -142,7 +142,7 @@ failed-of (Worked work ending comes (NotWritten name bytes done refused rose cal
 failed-of (Worked work ending comes (Starved name bytes done refused rose calm put)) four =
     inl (cut put four (λ is. omega (arith, is))).failed
 
--- of want of memory
+-- of running out of memory
 pub no-room-of : {asked : Option Work} {before after : Outside} {status : ℕ}
     → Explains before after status asked → status ≡ 5 → NoMemory asked before after
 no-room-of (NoWork same put) five = not-put put (λ is. omega (arith, five, is)) (λ is. omega (arith, five, is))

@@ -113,7 +113,7 @@ source-starved : (n : ℕ) → Within 1 65536 n → (verdict : Verdict) (answer 
 source-starved n few verdict (Ok p) right ends = not-elsewhere verdict ends
 source-starved n few verdict (Err shown) first ends = no-first n few shown first
 
--- its text is rejected only for want of memory
+-- its text is rejected only if memory runs out
 pub text-starved : (n : ℕ) → Within 1 65536 n → (text : List ℕ) → text ≡ sample_text n → (said : Said)
     → ((next : Source → Work) → EndsWorkWith (WhichSource false text) (or_ends BadSource next) said) → said ≡ no_memory
 text-starved n few text is said refuses =

@@ -1,4 +1,4 @@
--- No first fault of a program or of a file's calls is want of memory.
+-- No first fault of a program or of a file's calls is running out of memory.
 use Rattle.std.proofs.Common.{ℕ, Bool, true, false, not, ◌||◌, List, [], pos, Option, Some, None, subst}
 use Rattle.std.specs.Option.{option_or}
 use Rattle.gr_word.specs.declared.variables.Label.{Label}

@@ -22,9 +22,10 @@ use Rattle.call_steps.specs.Objects.{SpellsObject}
 abbrev pub IsStoreOf : Source → Store → Type 0
 IsStoreOf p store = FitsWants (declared_wants p.decls) store
 
--- Each variable of the program has a symbol. Runs on stores that agree on the program's public variables show the same, at every number of cycles. A run that has
--- halted within n cycles leaves the values that the program leaves, which is done within n turns. Where the program is
--- done within n turns, the run halts within n + 1 times the greatest costs of the instructions together.
+-- Each variable of the program has a symbol. Runs on stores that agree on the program's public variables show the same
+-- events, at every number of cycles. A run that has halted within n cycles leaves the values that the program leaves,
+-- which is done within n turns. Where the program is done within n turns, the run halts within n + 1 times the greatest
+-- costs of the instructions together.
 pub record RunsAsMeant (p : Source) (o : Parts) : Type 0 where
   pub symbols : HasSymbols p o
   pub shows_public : (one other : Store) (n : ℕ) → IsStoreOf p one → IsStoreOf p other → AgreeOnPublic p.decls one other

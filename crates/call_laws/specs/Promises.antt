@@ -172,7 +172,7 @@ pub record IsInferredFile (files afterwards : Files) (object output : List ℕ) 
   pub safe : IsSafe afterwards output
   pub same : safe.o ≡ found
 
--- What every call promises: the words, want of memory, or what the files gave explain how it ended.
+-- What every call promises: the words, running out of memory, or what the files gave explain how it ended.
 pub record Promises (asked : Option Work) (before after : Outside) (status : ℕ) : Type 0 where
   pub explained : Explains before after status asked
 
@@ -182,8 +182,8 @@ pub record CallLaws (asked : Option Work) (before after : Outside) (status : ℕ
   -- be read.
   pub answers : (files : Files) → before.shelf.files ≡ Some files → status ≢ 4 → status ≢ 5
       → IsAnswered asked before after status files ⊎ IsUnreadable asked before after status files
-  -- Status 2 means that the words request no work; if they request none, only a failed print or want of memory gives
-  -- another status.
+  -- Status 2 means that the words request no work; if they request none, only a failed print or running out of memory
+  -- gives another status.
   pub usage : status ≡ 2 → asked ≡ None
   pub no_work : asked ≡ None → (status ≡ 2) ⊎ (status ≡ 4) ⊎ (status ≡ 5)
   -- Statuses 3, 4 and 5 have their causes; the whole line of a failed write is printed only if a write failed.
@@ -212,7 +212,7 @@ pub record CallLaws (asked : Option Work) (before after : Outside) (status : ℕ
       → (Rose before.shelf.read_faults after.shelf.read_faults → ⊥)
       → (Rose before.shelf.write_faults after.shelf.write_faults → ⊥)
       → (Rose before.sink.faults after.sink.faults → ⊥) → IsDone status ⊎ (status ≡ 5)
-  -- Whatever object was checked for work that is done is oblivious.
+  -- If the work is done, every object that was checked for it is oblivious.
   pub oblivious : (object : List ℕ) (next : Parts → Work) → asked ≡ Some (with_accepted object next) → IsDone status
       → (files : Files) → before.shelf.files ≡ Some files → IsSafe files object
   -- So is the object of each core of a bus whose work is done.

@@ -26,6 +26,7 @@ use Rattle.call_replies.specs.declared.replies.InputFault.TheVariants as input
 use Rattle.call_replies.specs.declared.replies.Reply.TheVariants as reply
 
 -- why a file doesn't encode an object, and where
+-- Rule: call/object.
 abbrev pub object_fault : DecodeError → List ℕ
 object_fault (object.Truncated at) = codes "truncated " ++ decimal at
 object_fault object.BadMagic = codes "magic"
@@ -35,6 +36,7 @@ object_fault (object.TrailingBytes at) = codes "trailing " ++ decimal at
 object_fault object.Memory = codes "memory"
 
 -- why a text isn't an object, and in which line
+-- Rule: call/assembly.
 abbrev pub text_fault : AsmError → List ℕ
 text_fault (text.BadLine n) = codes "line " ++ decimal n
 text_fault (text.BadNumber n) = codes "number " ++ decimal n
@@ -52,6 +54,7 @@ limit_name TotalWords = codes "words"
 limit_name Height = codes "height"
 limit_name Weight = codes "weight"
 
+-- Rule: call/source.
 abbrev pub source_fault : SourceFault → List ℕ
 source_fault (source.Byte at) = codes "byte " ++ decimal at
 source_fault (source.Number at) = codes "number " ++ decimal at
@@ -77,6 +80,7 @@ source_fault (source.CallArray n) = codes "procs array " ++ decimal n
 source_fault source.CallsLarge = codes "procs large"
 
 -- what is wrong with a file that gives no inputs; the name is its JSON text
+-- Rule: call/input.
 abbrev pub input_fault : InputFault → List ℕ
 input_fault input.Json = codes "json"
 input_fault input.Object = codes "object"
@@ -86,6 +90,7 @@ input_fault (input.Length name) = codes "length " ++ name
 input_fault (input.Word name) = codes "word " ++ name
 
 -- why the plan of a bus refuses an object as a core
+-- Rule: call/bus.
 abbrev pub bus_fault : ℕ → BusError → List ℕ
 bus_fault core bus.NoWindow = codes "window " ++ decimal core
 bus_fault core (bus.OtherPeriod period) = codes "period " ++ decimal core
@@ -102,6 +107,7 @@ notes_fault notes.Memory = codes "memory"
 
 -- The line about a verb's own work, and its status: never 2 to 5, nor 11. A run of a bus has no line of its own: its
 -- last lines are those of its cores.
+-- Rules: call/refused, call/spent.
 abbrev pub verdict_text : Verdict → List ℕ
 verdict_text Accepted = codes "accepted\n"
 verdict_text (Traced true) = codes "end halted\n"
@@ -140,6 +146,7 @@ figures_text f =
     ++ (decimal f.eram ++ (codes "\noram2 " ++ (decimal f.oram2 ++ (codes "\nsum " ++ signed_decimal f.sum))))))))))
 
 -- the line of a verb that wrote its file, or its lines
+-- Rule: call/done.
 abbrev pub done_text : Done → List ℕ
 done_text (Halted at) = codes "halted " ++ decimal at
 done_text Assembled = codes "assembled"
@@ -154,18 +161,23 @@ pub record Said : Type 0 where
   pub status : ℕ
   pub text : List ℕ
 
+-- Rule: call/usage.
 abbrev pub usage : Said
 usage = record { status = 2; text = codes "fault 2 usage\n" }
 
+-- Rule: call/read.
 abbrev pub unread : List ℕ → Said
 unread name = record { status = 3; text = codes "fault 3 read " ++ name ++ codes "\n" }
 
+-- Rule: call/write.
 abbrev pub unwritten : List ℕ → Said
 unwritten name = record { status = 4; text = codes "fault 4 write " ++ name ++ codes "\n" }
 
+-- Rule: call/memory.
 abbrev pub no_memory : Said
 no_memory = record { status = 5; text = codes "fault 5 memory\n" }
 
+-- Rule: call/long.
 abbrev pub too_long : List ℕ → ℕ → Said
 too_long name limit = record {
   status = 11;

@@ -143,6 +143,8 @@ pub enum Reply<'a> {
     Wrote(Done),
 }
 
+// why: one conversion for the allocator's errors and `Memory` alike. A type that is also made from another error, such
+// as `Unread` of `run_data`, can't have it: the implementations would conflict.
 impl<'a, E: Into<Memory> + Drop> From<E> for Reply<'a> {
     ghost from_gives = { λ _ reply. reply ≡ NoMemory };
 
@@ -190,7 +192,7 @@ impl Verdict {
     }
 }
 
-/// The line for want of memory, which is printed if there isn't memory for any other.
+/// The line for running out of memory, which is printed if there isn't memory for any other.
 pub const NO_MEMORY: &str = "fault 5 memory\n";
 
 /// The bytes of the line.

@@ -16,7 +16,7 @@ bytes-found {bytes = bytes} ask next answer is found right =
     with-answer (ask bytes) (next bytes) (answer bytes) (found (λ b. Asks (ask b) (next b)))
     (subst (λ b. IsRight (ask b) (answer b)) is right)
 
--- bytes that are refused stop
+-- bytes that are refused end the work
 pub bytes-refused : {before after : Stage} {name : List ℕ} {limit : ℕ} {bytes slice : List ℕ} {what : Said}
     (ask : List ℕ → Question) (next : (b : List ℕ) → Answer (ask b) → Work) → slice ≡ bytes
     → Finds before after (Reads name limit) bytes → EndsWorkWith (ask slice) (next slice) what

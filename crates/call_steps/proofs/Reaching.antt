@@ -78,7 +78,7 @@ with-refusal {before} {after} {work} {what} question next reached refuses = reco
   calls = reached.calls after.log (StopsHere (Asks question next) after.log);
 }
 
--- what a `?` passes on: a reply, and want of memory
+-- what a `?` passes on: a reply, and running out of memory
 pub passed : {T : Type 0} {before after : Stage} {work : Work} (result : Result T Reply) (reply : Reply)
     → IsErrAnd result (λ r. r ≡ reply) → HasStopped before after work (said reply)
     → IfErr result (λ r. HasStopped before after work (said r))

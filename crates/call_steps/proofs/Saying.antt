@@ -60,7 +60,7 @@ pub no-assembly : (bytes : List ℕ) (fault : AsmError) (said : Said)
 no-assembly bytes text.Memory said fails says next = inl says
 no-assembly bytes fault said fails says next = inr (Err fault, BadAssembly fault, fails (λ e. cc), refl, says)
 
--- a fault that is shown isn't want of memory
+-- a fault that is shown isn't running out of memory
 shown-not : (fault : InputError) (shown : InputFault) → Shows fault shown → fault ≢ input.Memory
 shown-not input.Memory shown shows e = absurd shows
 shown-not other shown shows e = cc

@@ -12,7 +12,7 @@ use Rattle.command_words.specs.Windows.{windowed_profile}
 use Rattle.command_words.specs.declared.windows.Window.{Window}
 use Rattle.call_steps.specs.declared.targets.Target.{Target}
 
--- the object file is written, where there is room for the program's variables
+-- the object file is written, if there is room for the program's variables
 abbrev pub on_compiled : List ℕ → Result (List ℕ) SourceFault → Work
 on_compiled output (Ok bytes) = Writes output bytes Compiled
 on_compiled output (Err fault) = Ends nothing_seen (BadSource fault)

@@ -71,7 +71,7 @@ pub record IsCompiledTo (p : Source) (target : Target) (bytes : List ℕ) : Type
       target.fast (held_for target.fast p target.profile.block_log)
   pub size : length o.code ≤ most_code target.fast p
 
--- what lacks room, as it is printed; want of memory isn't a fault
+-- what lacks room, as it is printed; running out of memory isn't a fault
 abbrev pub room_fault : CompileError → Option SourceFault
 room_fault (room.TooManyScalars label) = Some (fault.Scalars label)
 room_fault (room.BankFull bank) = Some (fault.BankFull bank)

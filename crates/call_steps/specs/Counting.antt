@@ -21,6 +21,7 @@ is_second (Oram bank) = bank == 2
 is_second other = false
 
 -- how many events are of a kind
+-- Rule: sample/events.
 abbrev pub how_many : (Observed → Bool) → List Stamped → ℕ
 how_many kind events = count_by (λ s. kind s.event) events
 

@@ -40,7 +40,7 @@ unfoldable pub histogram_number : ℕ → ℕ
 histogram_number zero = 1
 histogram_number (suc k) = next_number (histogram_number k)
 
--- n of them, from x(1) on
+-- the first n of these numbers, from x(1) on
 abbrev pub histogram_numbers : ℕ → List ℤ
 histogram_numbers n = map (λ k. pos (histogram_number (suc k))) (range_with_len 0 n)
 
@@ -81,12 +81,14 @@ abbrev pub sum_of : List ℤ → ℤ
 sum_of words = fold ◌+ℤ◌ (pos 0) words
 
 -- the sum of the counts in what a program leaves, which is something where a run of its object halts
+-- Rule: sample/sum.
 abbrev pub sum_left : Source → Option Store → ℤ
 sum_left p (Some left) = sum_of (words_of_number left (variable_number p.decls (codes "c")))
 sum_left p None = pos 0
 
 -- what is printed about the run: the number of accesses to each memory before it halts at a cycle, and the sum of the
 -- counts that the program means
+-- Rules: sample/items, sample/cycles.
 abbrev pub figures_of : ℕ → Made → ℕ → Figures
 figures_of n made at = record {
   items = n;

@@ -11,8 +11,8 @@ pub record GetsNotes (o found : Parts) : Type 0 where
   pub in_range : IsInRange found
   pub inferred : IsInferred o found
 
--- Why an object gets none, which is never want of memory. Where its least notes are refused, so are all others that
--- open the same regions.
+-- Why an object gets none, which is never running out of memory. Where its least notes are refused, so are all others
+-- that open the same regions.
 pub record GetsNone (o : Parts) (why : InferError) : Type 0 where
   pub told : why ≢ Memory
   pub cause : IsWhyNot o why

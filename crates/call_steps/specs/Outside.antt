@@ -53,7 +53,7 @@ pub record RefusedWrite (name : List ℕ) (before after : ShelfSeen) : Type 0 wh
   pub reads : after.read_faults ≡ before.read_faults
 
 -- The files after an ending, with the exit status. A file that couldn't be written is reported instead of the finished
--- work, and so is want of memory in that write. If it is written, nothing else of the shelf changed.
+-- work, and so is running out of memory in that write. If it is written, nothing else of the shelf changed.
 pub data LeftBy (before after : Outside) (status : ℕ) : Ending → Type 0 where
   Unread : (name : List ℕ) → LeavesUnread name before.shelf after.shelf
       → PutsSaid before.sink after.sink (unread name) status → LeftBy before after status (IsUnread name)

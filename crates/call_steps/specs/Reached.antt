@@ -39,7 +39,7 @@ Finds {X} before after work_on found = (next : X → Work) → HasReached before
 abbrev pub FindsNone : {X : Type 0} → Stage → Stage → ((X → Work) → Work) → Said → Type 0
 FindsNone {X} before after work_on said = (next : X → Work) → HasStopped before after (work_on next) said
 
--- with an object, where it is accepted, and the inputs that another file gives for it
+-- with an object, if it is accepted, and the inputs that another file gives for it
 abbrev pub with_given : List ℕ → List ℕ → (Parts → List (List ℤ) → Work) → Work
 with_given object input next = with_accepted object (λ o. with_inputs o input (next o))
 

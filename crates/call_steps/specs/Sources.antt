@@ -64,7 +64,8 @@ pub record SpellsTyped (procs : Bool) (text : List ℕ) (p : Source) : Type 0 wh
   pub typed : IsTyped p
   pub within : IsWithinLimits p
 
--- the fault of a text's pieces, of its tokens, of its calls and of its program as it is shown; want of memory is none
+-- the fault of a text's pieces, of its tokens, of its calls and of its program as it is shown; running out of memory
+-- isn't one
 abbrev pub piece_fault : LexError → Option SourceFault
 piece_fault (piece.BadByte at) = Some (fault.Byte at)
 piece_fault (piece.NumberTooBig at) = Some (fault.Number at)

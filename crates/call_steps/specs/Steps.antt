@@ -21,7 +21,7 @@ input_limit = 67108864
 abbrev pub text_limit : ℕ
 text_limit = 67108864
 
--- with what was found; else the verb ends with this verdict of what was at fault
+-- with what was found; otherwise the verb ends with this verdict of what was at fault
 abbrev pub or_ends : {X E : Type 0} → (E → Verdict) → (X → Work) → Result X E → Work
 or_ends verdict next (Ok found) = next found
 or_ends verdict next (Err fault) = Ends nothing_seen (verdict fault)
@@ -34,7 +34,7 @@ on_judged next (Some refusal) = Ends nothing_seen (Refused refusal.0 refusal.1)
 abbrev pub with_object : List ℕ → (Parts → Work) → Work
 with_object name next = Reads name object_limit (λ bytes. Asks (WhichObject bytes) (or_ends Malformed next))
 
--- with the same, where it is accepted
+-- with the same, if it is accepted
 abbrev pub with_accepted : List ℕ → (Parts → Work) → Work
 with_accepted name next = with_object name (λ o. Asks (WhetherAccepted o) (on_judged (next o)))
 

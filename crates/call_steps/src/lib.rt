@@ -2,7 +2,7 @@
 //! a text, and write a file.
 //!
 //! The work of a verb is a tree of such steps (`specs/Work`), and its questions are those of `specs/Questions`. A step
-//! returns what it found or, as `Err`, the reply to print, also for want of memory: so it passes its errors on by `?`,
+//! returns what it found or, as `Err`, the reply to print, also if memory runs out: so it passes its errors on by `?`,
 //! and they are printed in one place. Its contract states how far the work came (`specs/Reached`, `specs/Progress`).
 //!
 //! A verb is a type with the trait [`verbs::Request`], and with [`verbs::Maker`] if its last step is to write a file,

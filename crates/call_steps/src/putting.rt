@@ -30,7 +30,7 @@ pub fn say_no_memory<O: Sink>(out: &mut O) -> u8
     put_text(out, WANTS_MEMORY, NO_MEMORY.as_bytes())
 }
 
-/// The line of a reply. Fails only for want of memory.
+/// The line of a reply. Fails only if memory runs out.
 pub fn line_of(alloc: Global, reply: &Reply) -> Result<String, Memory>
     ensures { IfOk result (λ line. string_bytes line ≡ (said reply.now).text) }
 {
@@ -40,7 +40,7 @@ pub fn line_of(alloc: Global, reply: &Reply) -> Result<String, Memory>
     }
 }
 
-/// Says what goes with a reply, or that memory ran out where there is none for its line.
+/// Prints the line of a reply, or the one for running out of memory if there is no memory for the line.
 pub fn say<O: Sink>(alloc: Global, reply: &Reply, out: &mut O) -> u8
     ensures { PutsSaid (O.seen out.old) (O.seen out.new) (said reply.now) result
         ⊎ PutsSaid (O.seen out.old) (O.seen out.new) no_memory result }

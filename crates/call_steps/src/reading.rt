@@ -175,7 +175,7 @@ fn undecoded<'a>(fault: DecodeError) -> Reply<'a>
     }
 }
 
-/// The object, where it is accepted.
+/// The object, if it is accepted.
 pub fn checked<'a>(alloc: Global, object: Object) -> Result<Accepted, Reply<'a>>
     ensures same { IfOk result (λ accepted. accepted ≡ object) }
     ensures accepts { OnOk result (Accepts object) }

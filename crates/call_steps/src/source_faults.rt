@@ -7,7 +7,7 @@ use src_lexer::LexError;
 use src_parser::{ParseError, TextError};
 use src_procs::InlineError;
 
-/// The fault of a text as it is shown; want of memory is none.
+/// The fault of a text as it is shown; running out of memory isn't one.
 pub(crate) fn text_fault(fault: TextError) -> Option<SourceFault>
     ensures { result ≡ text_fault fault }
 {
@@ -23,7 +23,7 @@ pub(crate) fn text_fault(fault: TextError) -> Option<SourceFault>
     }
 }
 
-/// The fault of a file's calls as it is shown; want of memory is none.
+/// The fault of a file's calls as it is shown; running out of memory isn't one.
 pub(crate) fn shown_call_fault(fault: InlineError) -> Option<SourceFault>
     ensures { result ≡ shown_call_fault fault }
 {
@@ -38,7 +38,7 @@ pub(crate) fn shown_call_fault(fault: InlineError) -> Option<SourceFault>
     }
 }
 
-/// The fault of a program as it is shown; want of memory is none.
+/// The fault of a program as it is shown; running out of memory isn't one.
 pub(crate) fn program_fault(fault: TypeError) -> Option<SourceFault>
     ensures { result ≡ program_fault fault }
 {

@@ -19,7 +19,8 @@ use Rattle.code_gen.proofs.Choosing.{standing-choice_guard, standing-choice_firs
 use Rattle.code_gen.proofs.Turning.{standing-loop_guard, standing-loop_body, follows-loop}
 use Rattle.block_cache_gen.specs.declared.frames.Mode.TheVariants as mode
 
--- What is wanted of the code of guards, of assignments, and of branches on secrets, for all that may be known at its place.
+-- What the code of guards, of assignments and of branches on secrets has to satisfy, in every state that may be known
+-- at its place.
 pub record PartsFollow (o : Parts) (f : Setting) (padded : Padding) : Type 0 where
   pub guards : (known : Ranges) (t : Test) (place : ℕ) → TypedTest (context_of f.decls) t → Low t.left × Low t.right
       → StandsAt o place (guard_code (ranged f known) mode.Public 0 t)

@@ -199,7 +199,7 @@ module _ (p : Source) (o : Parts) (fits : IsInRange o) (f : Setting) (homes : Ha
                 (record { words = ended.holds.words }) done.fits;
           }
 
-    -- where it is spent, it hasn't halted
+    -- if it is spent, it hasn't halted
     module _ (n : ℕ) (spent : Lasts o comes-begun.end n) where
       spent-no_halt : (at : ℕ) → HaltsAt (trace_from o start n) at → ⊥
       spent-no_halt =

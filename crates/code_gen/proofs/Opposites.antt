@@ -1,4 +1,4 @@
--- The opposite of a comparison holds exactly where the comparison fails.
+-- The opposite of a comparison holds exactly if the comparison fails.
 use Rattle.std.proofs.Common.{◌≡◌, ℕ, Bool, true, false, not, ℤ, pos, negsuc, int_lt, int_le, nat_lt, nat_le, refl, sym, ap, ◌∙◌, arith}
 use Rattle.gr_word.specs.Prelude.{compared}
 use Rattle.gr_word.specs.declared.operations.Cmp.{Cmp}
@@ -18,7 +18,7 @@ int_turned (pos a) (negsuc b) = refl
 int_turned (negsuc a) (pos b) = refl
 int_turned (negsuc a) (negsuc b) = nat_turned b a
 
--- the opposite comparison holds exactly where the other fails
+-- the opposite comparison holds exactly if the other fails
 pub compared-opposite : (cmp : Cmp) (a b : ℤ) → compared (opposite cmp) a b ≡ not (compared cmp a b)
 compared-opposite Eq a b = refl
 compared-opposite Ne a b = twice (compared Eq a b)

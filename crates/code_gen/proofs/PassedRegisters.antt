@@ -27,11 +27,11 @@ abbrev pub KnowsPins : Setting → Known → Type 0
 KnowsPins f k =
     (slot : ℕ) (q : Pin) → pin_at f slot ≡ Some q → slot < 8 → slot ≢ 6 → bank_known k slot ≡ Some q.bank
 
--- registers from one on hold things of the setting
+-- the registers from r on hold what the setting lists there
 abbrev pub AreHeldFrom : Setting → ℕ → List Held → Type 0
 AreHeldFrom f r held = (i : ℕ) (h : Held) → slice_get held i ≡ Some h → held_at f.held (r + i) ≡ Some h
 
--- as those from 19 on do
+-- the registers from 19 on hold all that the setting lists
 pub all_held : (f : Setting) → AreHeldFrom f 19 f.held
 all_held f = held-at f.held
 

@@ -30,7 +30,7 @@ abbrev pub slot_code : Phase → (slot : ℕ) → Option Pin → List Instr
 slot_code Beginning = load_code
 slot_code Ending = pin_store
 
--- the access of a register's word in a slot, whose number register 0 has
+-- the load or the store of a register's word in a slot: register 0 holds the number of the word
 abbrev pub access : Phase → (r slot : ℕ) → Instr
 access Beginning r slot = Ldw r slot 0
 access Ending r slot = Stw r slot 0

@@ -23,7 +23,7 @@ use Rattle.gr_word.specs.declared.variables.Label.TheVariants as label
 abbrev pub Padding : Type 0
 Padding = Setting → Test → Block → Block → List Instr
 
--- the comparison that holds exactly where another doesn't
+-- the comparison that holds exactly if another doesn't
 abbrev pub opposite : Cmp → Cmp
 opposite Eq = Ne
 opposite Ne = Eq
@@ -38,7 +38,7 @@ abbrev pub second_code : List Instr → List Instr
 second_code [] = []
 second_code (i ∷ code) = Jmp (pos (length (i ∷ code) + 1)) ∷ i ∷ code
 
--- how many places there are from the branch to the second block, or to the end where it is empty
+-- how many places there are from the branch to the second block, or to the end if it is empty
 abbrev pub places_over : List Instr → List Instr → ℕ
 places_over first [] = length first + 1
 places_over first (i ∷ code) = length first + 2

@@ -17,8 +17,8 @@ fn latency_for(l: &Latencies, bank: usize) -> u32
     }
 }
 
-/// The banks, where the number of blocks of each is given, each with the latency of its kind. The only error is want of
-/// memory.
+/// The banks, where the number of blocks of each is given, each with the latency of its kind. The only error is running
+/// out of memory.
 pub(crate) fn bank_specs(
     alloc: Global,
     blocks: &[u32],

@@ -138,7 +138,7 @@ fn compiled(
 /// these cycles and latencies. It has at most 120 instructions for each unit of the program's weight and 64 more, the
 /// number of stores of a word that follows from the program and the profile (`stores`), and is in its ranges. It fails
 /// exactly if the program's variables lack room, with the first cause: the public scalars, the secret ones, or a bank.
-/// The only other error is want of memory.
+/// The only other error is running out of memory.
 pub fn compile(alloc: Global, t: &Typed, p: &Profile, l: &Latencies) -> Result<Object, CompileError>
     requires profile { ProfileFits p.now }
     requires latencies { LatenciesFit l.now }

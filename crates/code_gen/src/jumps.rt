@@ -9,7 +9,7 @@ use gr_base::Memory;
 use gr_word::Cmp;
 use lt_isa::Note;
 
-// The comparison that holds exactly where another doesn't.
+// The comparison that holds exactly if another doesn't.
 fn opposite(cmp: Cmp) -> Cmp
     ensures { result ≡ opposite cmp }
 {
@@ -43,8 +43,8 @@ pub(crate) fn set_branch_unless(out: &mut CodeBuf, at: u32, cmp: Cmp)
     out.set_branch(at, opposite(cmp));
 }
 
-/// Appends a note after the code so far, to which public code may jump: every register may hold a secret, but those that
-/// hold something public for the whole run. The only error is want of memory.
+/// Appends a note after the code so far, to which public code may jump: every register may hold a secret, but those
+/// that hold something public for the whole run. The only error is running out of memory.
 pub(crate) fn put_head_note(emitter: &Emitter<'_, '_, '_>, out: &mut CodeBuf) -> Result<(), Memory>
     requires room { length out.old.code.items < 2 ^ 32 }
     ensures appended { OnOk result (Appended out.old out.new [] (λ place. head_note emitter.now place ∷ [])) }

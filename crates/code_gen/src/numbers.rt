@@ -101,7 +101,7 @@ fn hold_places(held: &mut Vec<Held>, places: &[Place]) -> Result<(), Memory>
 }
 
 /// What registers hold for the whole run of a program: its first scalars, then the numbers that the code of its arrays
-/// needs, then those of its expressions in the order of their code. The only error is want of memory.
+/// needs, then those of its expressions in the order of their code. The only error is running out of memory.
 #[tactic(auto, unfolding(compiled_objects::specs::HeldNumbers::held_for))]
 pub(crate) fn held_for(
     alloc: Global,

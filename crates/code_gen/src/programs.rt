@@ -170,7 +170,8 @@ fn put_ending(
 }
 
 /// The code of a whole program, and its notes: the loads that the rest relies on, the statements, and the stores of the
-/// scalars that registers hold and of the blocks that slots hold for the whole run. The only error is want of memory.
+/// scalars that registers hold and of the blocks that slots hold for the whole run. The only error is running out of
+/// memory.
 pub(crate) fn program_code<'a>(
     alloc: Global,
     emitter: &Emitter<'a, '_, '_>,

@@ -196,7 +196,7 @@ fn put_loop<'a>(
 }
 
 /// Appends the code and the notes of statements in their order, each made for what is known at its place, and returns
-/// whether there is a note just after them. The only error is want of memory.
+/// whether there is a note just after them. The only error is running out of memory.
 #[cycle(statements)]
 pub(crate) fn put_block<'a>(
     emitter: &Emitter<'a, '_, '_>,

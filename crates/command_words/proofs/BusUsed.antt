@@ -1,5 +1,5 @@
--- Uses of rules that take each one use are wrong exactly where one comes again or has too few or too many values; else
--- they are what is found.
+-- If each rule may be used once, its uses are wrong exactly if a rule is used again or has too few or too many values.
+-- Otherwise the uses are the result.
 use Rattle.std.proofs.Common.{◌≡◌, inl, inr, ⊎_elim, ◌∙◌, refl, sym, ap, subst, Bool, true, false, ◌||◌, List, [], ◌∷◌, ◌++◌, append-nil, append_assoc, length, true≢false}
 use Rattle.std.specs.Str.{bytes_eq}
 use Rattle.clap.specs.Facts.{unwrap_or_range}

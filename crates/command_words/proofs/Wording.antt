@@ -14,7 +14,7 @@ use Rattle.command_words.specs.declared.verbs.Verb.{Verb}
 use Rattle.command_words.specs.Prelude.{IsFound, asked_by, none_wrong, is_option_number, option_within, command_of, Works, asked_for, asks_of, row_of}
 use Rattle.clap.specs.declared.error.kind.ErrorKind.TheVariants as kind
 
--- an error that isn't want of memory says that something is wrong
+-- an error that isn't running out of memory says that something is wrong
 pub refused-wrong : (kinds : Kinds) (error : Error)
     → HasKind kinds error → kind_of error ≢ kind.OutOfMemory → none_wrong kinds ≡ false
 refused-wrong [] error has other = absurd (elim has [ inl memory ↦ other memory | inr among ↦ among ])

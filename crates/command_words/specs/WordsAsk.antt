@@ -1,5 +1,6 @@
 -- Which work the words of a command line ask for, verb by verb: exactly the words that say so. (This project's
 -- profile.)
+-- why: of UTF-8 words only. `clap`'s definition of a word's characters has no meaning for other bytes.
 use Rattle.std.specs.Prelude.{◌≡◌, ◌↔◌, ℕ, List, [], ◌∷◌, codes, Some, None}
 use Rattle.command_words.specs.declared.windows.Window.{Window}
 use Rattle.command_words.specs.CommandLines.{AreTexts, IsAmong, Part, Says, StandTogether, Text, compile_options, has_flag, run_options, value_in}

@@ -70,7 +70,7 @@ fn no_room<'a>(fault: CompileError) -> Reply<'a>
     }
 }
 
-/// What lacks room as it is shown; want of memory is none.
+/// What lacks room as it is shown; running out of memory isn't one.
 fn room_fault(fault: CompileError) -> Option<SourceFault>
     ensures { result ≡ room_fault fault }
 {

@@ -70,7 +70,8 @@ stores_with_residents p profile =
     stores_by (folded_source p) (fast_plan p profile.block_log) profile true
     (held_for (folded_source p) (fast_plan p profile.block_log).places)
 
--- A program is refused where its variables lack room, as the first of them does. Want of memory says nothing.
+-- A program is refused where its variables lack room, as the first of them does. Running out of memory says nothing
+-- about the program.
 abbrev pub ExplainsRoom : CompileError → Source → ℕ → Type 0
 ExplainsRoom (TooManyScalars label) p w = Refuses p w (place.TooManyScalars label)
 ExplainsRoom (BankFull bank) p w = Refuses p w (place.BankFull bank)

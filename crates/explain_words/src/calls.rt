@@ -54,7 +54,7 @@ impl<'a, 'b> Model for Call<'a, 'b> {
 
 impl<'a, 'b> Call<'a, 'b> {
     /// The call of some words, the verb first, that ended with a status. The verb's line of the table of verbs is empty
-    /// where there is no such verb.
+    /// if there is no such verb.
     pub fn new(
         alloc: Global,
         status: u8,

@@ -65,7 +65,7 @@ pub fn length_up_to(text: &[u8], marks: &[u8]) -> usize
     text.len()
 }
 
-/// The byte at which a line begins, by its number from 1, and the text's end where there is no such line.
+/// The byte at which a line begins, by its number from 1, and the text's end if there is no such line.
 pub fn line_start(text: &[u8], number: usize) -> usize
     ensures { result ≤ length text.now }
 {

@@ -44,7 +44,7 @@ split n es fs m l a =
       second = agree_fewer (omega (arith, long)) all;
     }
 
--- they may be set once more
+-- the new variables may be set once more
 module _ (needs_name : Term → Bool) where
   pub set_again_run : (n : ℕ) (es : List Term) (m : Memory) (turns : ℕ)
       → run (set_again needs_name n es) m turns ≡ Some (at (temporaries n es m) turns)
@@ -56,7 +56,7 @@ module _ (needs_name : Term → Bool) where
   restored_right n w le BothSpent = BothSpent
   restored_right n w le (BothLeft {b = b} same a) = BothLeft same (agree_then a (agree_new b.memory n w le))
 
-  -- a statement under them
+  -- a statement in the scope of the new variables
   pub locals_alike : {p : ℕ} {r : Option State} (n : ℕ) (es : List Term) (s : Statement) (l : Memory) (turns : ℕ)
       → p ≤ n → Alike p r (run s (temporaries n es l) turns) → Alike p r (run (with_locals needs_name n es s) l turns)
   locals_alike n [] s l turns le a = a

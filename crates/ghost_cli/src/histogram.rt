@@ -22,7 +22,7 @@ pub(crate) const SAMPLE_CYCLES: u32 = 4_294_967_295;
 const COUNTS: usize = 2;
 
 /// The sample's program for this many items, which counts how often each remainder by 16 occurs among them. The only
-/// error is want of memory.
+/// error is running out of memory.
 pub(crate) fn sample_program<'a>(alloc: Global, items: u32) -> Result<Typed, Reply<'a>>
     requires { Within 1 65536 items }
     ensures spells { IfOk result (λ p. SpellsTyped false (sample_text items) (source_of p)) }

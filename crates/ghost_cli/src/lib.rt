@@ -14,7 +14,7 @@
 //! line to the crate `call_replies`. No other verb's files change.
 //!
 //! A function returns the status if it printed its own text. If nothing was printed yet, its `Err` is the reply to
-//! print, also for want of memory. They are printed in one place.
+//! print, also if memory runs out. They are printed in one place.
 #![tactic(auto)]
 
 mod check;

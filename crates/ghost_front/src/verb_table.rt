@@ -127,7 +127,7 @@ pub(crate) const VERBS: [VerbHelp; 17] = [
     },
 ];
 
-/// What may stand in the place of a verb, or before it.
+/// The words that may be given instead of a verb, or before it.
 const OTHERS: [VerbHelp; 5] = [
     VerbHelp {
         usage: "help [VERB]",

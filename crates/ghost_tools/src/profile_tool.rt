@@ -23,10 +23,10 @@ pub struct ProfileWords<'a> {
 }
 
 /// The tool `profile SRC INPUT [--fast] [--block-log W] [--window P:O:C] [--procs] [--cycles N]`: compiles a program in
-/// memory, runs it on inputs, and prints for each line of the source the cycles and the accesses of its instructions, and
-/// how many of the cycles are padding: those that an arm of a branch on a secret takes only to show the same as the other
-/// arm. The cycles of all rows sum to those of the run. With `--procs` the line of a procedure has the instructions of all
-/// its calls.
+/// memory, runs it on inputs, and prints for each line of the source the cycles and the accesses of its instructions,
+/// and how many of the cycles are padding: those that an arm of a branch on a secret takes only to show the same events
+/// as the other arm. The cycles of all rows sum to those of the run. With `--procs` the line of a procedure has the
+/// instructions of all its calls.
 ///
 /// Statuses: 0 the run halted; 10 it didn't within its cycles; 1 the code isn't of the form that the compiler gives it, so
 /// that no table is printed; 2, 3, 5, 8, 9 and 11 as of `compile` and `run`, with the same lines; 4 the text couldn't be

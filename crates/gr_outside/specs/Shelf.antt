@@ -33,6 +33,7 @@ pub record ShelfSeen : Type 0 where
   pub files : Option Files
   pub read_faults : ℕ
   pub write_faults : ℕ
+  -- why: with it contracts say that status 5 after the write comes only from the write itself
   pub starved : ℕ
   pub unread : Option (List ℕ)
 

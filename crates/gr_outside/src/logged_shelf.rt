@@ -15,8 +15,8 @@ struct Note {
 }
 
 /// A shelf over another one that passes each call on to it, and keeps a log of the calls that is visible to contracts,
-/// and the name of the last file that couldn't be read. If a note or a name can't be stored for want of memory, the log
-/// or the name is dropped, and the calls are passed on as before.
+/// and the name of the last file that couldn't be read. If a note or a name can't be stored because memory ran out, the
+/// log or the name is dropped, and the calls are passed on as before.
 #[derive(Drop)]
 pub struct LoggedShelf<F: Shelf + Drop> {
     alloc: Global,

@@ -50,6 +50,8 @@ pub trait Shelf {
     ghost seen: { Self → ShelfSeen };
 
     /// The calls so far, in order, if the shelf keeps a log of them that is visible.
+    /// why: beside what the shelf is seen as, so a read that succeeds leaves that equal. `LoggedShelf` is a shelf of
+    /// its own, since a log needs memory for each call.
     ghost log: { Self → Option (List ShelfCall) } = { λ _. None };
 
     /// The first `most` bytes of the file with that name, or all of them if it has fewer.

@@ -32,6 +32,7 @@ pub trait Sink {
 
     /// Passes on the bytes that are held back, and adds none. A sink whose bytes are visible holds nothing back, so its
     /// flush doesn't fail.
+    /// why: standard output holds bytes back. A sink in memory holds none back and does nothing here.
     fn flush(&mut self) -> Result<(), SinkFailed>
         ensures nothing_added { (seen self.new).held ≡ (seen self.old).held }
         ensures calm { OnOk result ((seen self.new).faults ≡ (seen self.old).faults) }

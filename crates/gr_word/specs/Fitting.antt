@@ -25,6 +25,7 @@ AreDistinct [] = Unit {0}
 AreDistinct (want ∷ wants) = All (λ other. want.name ≢ other.name) wants × AreDistinct wants
 
 -- wants that are variables: their names differ, and a scalar has one word
+-- why: the symbols of every object and the variables of every typed program are such, so inputs are read by names.
 pub record AreVariables (wants : List Want) : Type 0 where
   pub distinct : AreDistinct wants
   pub scalars : All (λ want. want.shape ≡ Scalar → want.length ≡ 1) wants

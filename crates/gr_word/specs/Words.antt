@@ -16,10 +16,13 @@ abbrev pub is_zero : ℤ → Bool
 is_zero word = unsigned_of word == 0
 
 -- one number if the divisor isn't 0, another if it is
+-- Rules: meaning/division-by-zero, meaning/remainder-by-zero.
 abbrev pub unless_zero : ℤ → ℤ → ℤ → ℤ
 unless_zero divisor otherwise at_zero = if is_zero divisor then at_zero else otherwise
 
 -- the result of an operation
+-- Rules: step/alu, step/mul, meaning/sum, meaning/quotient, meaning/least-quotient, meaning/remainder, meaning/bits,
+-- meaning/shift-count, meaning/shift-right.
 abbrev pub applied : Op → ℤ → ℤ → ℤ
 applied Add a b = int_wrap w64 (a +ℤ b)
 applied Sub a b = int_wrap w64 (a -ℤ b)

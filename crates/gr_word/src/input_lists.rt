@@ -29,7 +29,7 @@ impl Inputs {
         }
     }
 
-    /// Adds the words of the next variable. Out of memory leaves the lists as they were, and drops the words.
+    /// Adds the words of the next variable. Running out of memory leaves the lists as they were, and drops the words.
     pub fn push(&mut self, words: Vec<i64>) -> Result<(), Memory>
         ensures added { OnOk result (self.new ≡ self.old ++ words.items ∷ []) }
         ensures unchanged { OnErr result (self.new ≡ self.old) }

@@ -23,7 +23,7 @@ fn takes_register(decl: &Decl, taken: usize) -> bool
     decl.length.is_none() && taken < 13
 }
 
-/// The zeros, and the first scalars, as many as there are registers. The only error is want of memory.
+/// The zeros, and the first scalars, as many as there are registers. The only error is running out of memory.
 pub fn held_scalars(alloc: Global, decls: &[Decl]) -> Result<Vec<Held>, Memory>
     requires few { length decls.now ≤ 256 }
     ensures { IfOk result (λ held. held.items ≡ held_scalars decls.now) }
@@ -95,7 +95,7 @@ pub fn register_of_number(held: &[Held], number: i64) -> Option<u8>
     }
 }
 
-/// Gives a number a register if it has none and one is left. The only error is want of memory.
+/// Gives a number a register if it has none and one is left. The only error is running out of memory.
 pub fn hold_number(held: &mut Vec<Held>, number: i64) -> Result<(), Memory>
     requires few { length held.old.items ≤ 13 }
     ensures { OnOk result (held.new.items ≡ with_number held.old.items number) }

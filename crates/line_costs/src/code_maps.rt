@@ -10,7 +10,7 @@ use src_tree::{Program, Stmt};
 use std::alloc::Global;
 
 /// The statement of an instruction, by its number in the order of the text, and whether the instruction only makes both
-/// arms of a branch on a secret show the same.
+/// arms of a branch on a secret show the same events.
 #[derive(Clone, Copy)]
 pub struct Owner {
     /// The number of the statement.

@@ -71,6 +71,8 @@ pub(crate) fn accesses_at(instruction: Instr) -> u64
 }
 
 /// The place after an instruction that took this many cycles.
+/// why: the machine doesn't report its place. A branch that is taken takes more than one cycle, so the place follows
+/// from the instruction and its cycles.
 pub(crate) fn next_place(object: &Object, place: usize, instruction: Instr, took: u64) -> usize
     requires { place < length object.now.code }
     ensures { result ≡ next_of object.now place instruction took }

@@ -46,6 +46,7 @@ LeadsToKnown labels (AnInstruction instr (Some (ToLabel name))) = is_some (looku
 LeadsToKnown labels item = Unit {0}
 
 -- The item of line n is the first whose target is a label that no line defines.
+-- Rule: assembly/unknown.
 pub record IsUnknown (items : List Item) (n : ℕ) : Type 0 where
   pub before : List Item
   pub instr : Instr

@@ -23,6 +23,7 @@ abbrev pub IsTarget : Word → Type 0
 IsTarget word = IsTrue (is_number_word word || is_name word)
 
 -- The words of an instruction, with any words for its constant and its slots.
+-- Rule: assembly/instruction.
 pub data HasInstructionForm : List Word → Type 0 where
   Nop : HasInstructionForm (codes "nop" ∷ [])
   Halt : HasInstructionForm (codes "halt" ∷ [])
@@ -51,6 +52,7 @@ InstructionFollows (line ∷ lines) =
 -- Some words have a form that is allowed after what was read, with these lines to come. The first line comes once; then
 -- banks, symbols and code follow in this order. Symbols and code need two banks before them. A note needs an
 -- instruction after it, and no other note at the same place.
+-- Rules: assembly/object-line, assembly/bank-line, assembly/symbol-line, assembly/label, assembly/note-line.
 pub data HasForm (e : Earlier) (after : List (List ℕ)) : List Word → Type 0 where
   Empty : HasForm e after []
   Object : (version block_log alu mul word taken : Word) → e.stage ≡ 0

@@ -14,11 +14,13 @@ use Rattle.lt_assembler.specs.Forms.{HasForm}
 use Rattle.lt_assembler.specs.declared.faults.Fault.TheVariants as fault
 
 -- A line is ASCII, and its words have a form that is allowed there.
+-- Rule: assembly/line.
 pub record IsOfForm (e : Earlier) (line : List ℕ) (after : List (List ℕ)) : Type 0 where
   pub ascii : IsTrue (is_ascii_line line)
   pub form : HasForm e after (words line)
 
 -- The numbers of an item are in the ranges of their fields, and the place of a symbol is allowed.
+-- Rule: assembly/number.
 abbrev pub FitsRanges : Earlier → Item → Type 0
 FitsRanges e Nothing = Unit {0}
 FitsRanges e (AnObject profile) = ProfileFits profile
@@ -31,12 +33,14 @@ FitsRanges e (ANote mask claims) =
 FitsRanges e (AnInstruction instr target) = InstrFits (length e.banks) instr
 
 -- no symbol has the symbol's name, and no label has the label's name
+-- Rule: assembly/twice.
 abbrev pub HasNewName : Earlier → Item → Type 0
 HasNewName e (ASymbol symbol) = All (λ other. other.name ≢ symbol.name) e.symbols
 HasNewName e (ALabel name) = lookup (bytes_eq name) e.labels ≡ None
 HasNewName e item = Unit {0}
 
 -- the item doesn't exceed a limit, nor do the words of all symbols
+-- Rule: assembly/limit.
 abbrev pub HasRoom : Earlier → Item → Type 0
 HasRoom e (ABank bank) = length e.banks < most_banks
 HasRoom e (ASymbol symbol) =

@@ -78,7 +78,7 @@ fn assembled(alloc: Global, text: &[u8]) -> Result<Object, AsmError>
 /// The object that an assembly text encodes, or the text's first error; the text has at most 67,108,864 bytes. The
 /// first error is that of the first line with an error; if no line has one, that the text ends too early; and otherwise
 /// the first use of a label that isn't defined. Within a line the form comes first, then numbers, repeated names, and
-/// limits. Out of memory says nothing about the text.
+/// limits. Running out of memory says nothing about the text.
 pub fn assemble(alloc: Global, text: &[u8]) -> Result<Object, AsmError>
     requires { length text.now ≤ 67108864 }
 

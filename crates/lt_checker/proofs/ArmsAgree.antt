@@ -38,7 +38,7 @@ pub record Agrees (e f : State) (known : SymState) : Type 0 where
   pub trees : (r : ℕ) (t : Value) → tree_held known r ≡ Some t → TreeAgrees e f t
   pub slots : (j : ℕ) → SlotAgrees e f (slot_held known j)
 
--- a pattern shows the same at both entries
+-- a pattern shows the same events at both entries
 abbrev pub ShowsAlike : Parts → State → State → Shown TreeEvent → Type 0
 ShowsAlike o e f pattern = (cycle : ℕ) → played o e cycle pattern.parts ≡ played o f cycle pattern.parts
 
@@ -53,7 +53,7 @@ joined_alike o e f p q first rest = λ cycle.
     ∙ ap (λ (l : List Stamped). played o f cycle p.parts ++ l) (rest (ends o cycle p))
     ∙ sym (played-joined o f cycle p q)
 
--- the way on which the branch isn't taken shows the same at both entries
+-- the path on which the branch isn't taken shows the same events at both entries
 pub untaken_alike : (o : Parts) (e f : State) (one : Shown TreeEvent) → ShowsAlike o e f one
     → ShowsAlike o e f (untaken_way o one)
 untaken_alike o e f one h = joined_alike o e f (gap 1) one (λ cycle. refl) h
@@ -219,7 +219,7 @@ module _ (o : Parts) (e f : State) (ram : bank_blocks e 0 ≡ bank_blocks f 0) w
 
   -- an arm, and a region in it
   mutual
-    -- an arm shows the same at two entries that agree
+    -- an arm shows the same events at two entries that agree
     pub arm_agrees : (depth q p : ℕ) (known : SymState) (pattern : Shown TreeEvent) (after : SymState)
         → WalksTo o depth q p known pattern after → Agrees e f known → AgreesBehind o e f pattern after
     arm_agrees depth q p known pattern after (AtEnd d end k) h = record { shows = λ cycle. refl; agrees = h }

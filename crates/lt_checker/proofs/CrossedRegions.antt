@@ -1,5 +1,5 @@
--- Two runs that reach a branch on a secret whose region is crossed show the same and meet at its join, whichever arm
--- each of them takes.
+-- Two runs that reach a branch on a secret whose region is crossed show the same events and meet at its join, whichever
+-- arm each of them takes.
 use Rattle.std.proofs.Common.{◌≡◌, ℕ, ◌+◌, ◌-◌, ◌≤◌, ℤ, List, length, Some, refl, sym, ap, ◌∙◌, subst, arith}
 use Rattle.std.specs.Prelude.{slice_get}
 use Rattle.gr_word.specs.declared.operations.Cmp.{Cmp}
@@ -28,7 +28,7 @@ region_later : (o : Parts) → IsInRange o
 region_later o fits e s q one known run =
     omega (arith, run.cycle, ends-least o s.cycle (untaken_way o one), fits.profile.taken.0)
 
--- two runs through a region show the same and meet
+-- two runs through a region show the same events and meet
 meets : (o : Parts) → IsInRange o → (k : Known) (join : ℕ) (one : Shown TreeEvent) (known : SymState) (s t : State)
     → IsShaped o s → IsShaped o t → Related k s t → ShowsAlike o s t (untaken_way o one) → Agrees s t known
     → Runs o s s join (untaken_way o one) known → Runs o t t join (untaken_way o one) known

@@ -1,5 +1,5 @@
 -- One instruction of an accepted object that opens no region leads two runs that are alike to states that are alike,
--- and shows the same.
+-- and shows the same events.
 use Rattle.std.proofs.Common.{◌≡◌, ℕ, ◌+◌, ◌<◌, Bool, true, false, not, ◌&&◌, ◌||◌, ℤ, pos, List, [], get_or, set, Option, Some, None, refl, sym, ap, ◌∙◌, subst, ⊎_elim}
 use Rattle.std.specs.Prelude.{if◌then◌else◌}
 use Rattle.std.proofs.lemmas.Bool.{and_cases, or_parts, or_left, not-false, true≢false, false≢true, eqb-true}
@@ -20,7 +20,7 @@ abbrev pub OpensNone : Known → Instr → Type 0
 OpensNone k (Br cmp ra rb offset) = (is_secret k ra || is_secret k rb) ≡ false
 OpensNone k i = Unit {0}
 
--- two steps are alike: both continue, show the same and lead to one visited place again, or both stop
+-- two steps are alike: both continue, show the same events and lead to one visited place again, or both stop
 abbrev pub StepsAlike : Parts → StepResult → StepResult → Type 0
 StepsAlike o (Goes e s) (Goes f t) = (e ≡ f) × Stand o s t
 StepsAlike o (Goes e s) (Stops t) = ⊥
@@ -30,7 +30,7 @@ StepsAlike o (Stops s) (Goes f t) = ⊥
 StepsAlike o (Stops s) Faults = ⊥
 StepsAlike o Faults t = ⊥
 
--- an access shows the same in both runs
+-- an access shows the same events in both runs
 event_alike : (e : ℕ → List ℤ → Observed) (f : ℕ → Observed) (g : Observed) (ram eram : Bool) (a1 a2 : ℕ)
     (words1 words2 : List ℤ) → ((ram || eram) ≡ true → a1 ≡ a2) → (ram ≡ true → words1 ≡ words2)
     → ◌≡◌ {A = Observed} (if ram then e a1 words1 else (if eram then f a1 else g))

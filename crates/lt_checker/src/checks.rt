@@ -70,8 +70,8 @@ impl Accepted {
 
 /// Checks an object. It is accepted exactly if no rule refuses it. Otherwise the result is the first refusal: the
 /// lowest place of public code that is refused or, if its region is refused, the place in the region. Either way the
-/// object is returned as it was. Out of memory says nothing about the object. The check takes memory for one number for
-/// each place, if there are notes, and for the values of one region at a time. It examines each place once.
+/// object is returned as it was. Running out of memory says nothing about the object. The check takes memory for one
+/// number for each place, if there are notes, and for the values of one region at a time. It examines each place once.
 #[tactic(auto, using(crate::proofs::Soundness::accepted_is_oblivious, crate::proofs::AcceptanceLaws::refused_is_not_accepted))]
 pub fn check(alloc: Global, object: Object) -> Result<Accepted, CheckError>
     ensures object { IfOk result (λ accepted. accepted ≡ object) }

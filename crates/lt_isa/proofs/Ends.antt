@@ -225,7 +225,7 @@ module _ (o : Parts) (fits : IsInRange o) (s : State) (shaped : IsShaped o s) wh
       → final_from o s m ≡ final_from o (final_from o s n) m
   final_resumed n m le none = ((spent-from_no_halt n none).resumes m le).1
 
-  -- once a run has halted, it shows the same up to a later cycle
+  -- once a run has halted, it shows the same events up to a later cycle
   pub trace_halted : (n m at : ℕ) → n ≤ m → HaltsAt (trace_from o s n) at → trace_from o s m ≡ trace_from o s n
   trace_halted n m at le halts = ((halted-from_halt n at halts).stays m le).0
 

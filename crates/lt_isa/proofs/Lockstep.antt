@@ -1,4 +1,5 @@
--- Two runs show the same, and one run meets no fault, if each step or stretch keeps a relation or a property of states.
+-- Two runs show the same events, and one run meets no fault, if each step or stretch keeps a relation or a property of
+-- states.
 use Rattle.std.proofs.Common.{◌≡◌, ℕ, zero, suc, ◌+◌, ◌≤◌, List, ◌++◌, Some, ◌⊎◌, refl, sym, ap, ◌∙◌, ⊎_elim, arith}
 use Rattle.lt_isa.specs.Prelude.{Parts, IsInRange, State, Halted, Stops, step, step_start, Stamped, stamped, trace_from, Reaches, IsShaped}
 use Rattle.lt_isa.proofs.Steps.{step_start-least}
@@ -56,7 +57,7 @@ module _ (o : Parts) (fits : IsInRange o) (Related : State → State → Type 0)
       (λ ends. stops-alike s t shape_s shape_t ends n)
       (keeps s t related shape_s shape_t)
 
-  -- related states show the same if stretches from them show the same and lead to related states
+  -- related states show the same events if stretches from them show the same events and lead to related states
   pub lockstep_over : (s t : State) → Related s t → IsShaped o s → IsShaped o t → (n : ℕ)
       → trace_from o s n ≡ trace_from o t n
   lockstep_over s t related shape_s shape_t n =

@@ -9,6 +9,7 @@ use Rattle.lt_isa.specs.Object.{Parts, latency_of}
 use Rattle.lt_isa.specs.Windows.{most_wait}
 
 -- a product, a quotient and a remainder cost mul; every other operation costs alu
+-- Rules: profile/alu, profile/mul.
 abbrev pub operation_cost : Profile → Op → ℕ
 operation_cost p Mul = p.mul
 operation_cost p Div = p.mul
@@ -18,6 +19,7 @@ operation_cost p other = p.alu
 
 -- What an instruction costs. Whether it was taken matters only for a branch; the bank that is accessed matters only for
 -- loads and stores of a block.
+-- Rules: profile/word, profile/taken.
 abbrev pub cost_of : Parts → Instr → Bool → ℕ → ℕ
 cost_of o (Alu op rd ra rb) taken bank = operation_cost o.profile op
 cost_of o (Ldb k b r) taken bank = latency_of o bank

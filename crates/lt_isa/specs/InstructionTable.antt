@@ -61,6 +61,8 @@ opcode_of (Alu op) = operation_code op
 opcode_of (Br cmp) = comparison_code cmp
 
 -- the kind of instruction that an opcode names, if it names one
+-- Rules: encoding/nop, encoding/halt, encoding/li, encoding/ldb, encoding/stb, encoding/idb, encoding/ldw,
+-- encoding/stw, encoding/jmp, encoding/operation, encoding/br.
 unfoldable pub kind_named : ℕ → Option Kind
 kind_named n = find (λ k. n == opcode_of k) kinds
 

@@ -27,6 +27,7 @@ abbrev pub usual_latencies : Latencies
 usual_latencies = record { ram = 634; eram = 662; oram = 4262 }
 
 -- the number of words of a block
+-- Rule: profile/block-log.
 abbrev pub block_words : Parts → ℕ
 block_words o = 2 ^ o.profile.block_log
 
@@ -38,6 +39,7 @@ no_bank = record { blocks = 0; latency = 0 }
 abbrev pub blocks_of : Parts → ℕ → ℕ
 blocks_of o b = (slice_index_or o.banks b no_bank).blocks
 
+-- Rule: profile/latency.
 abbrev pub latency_of : Parts → ℕ → ℕ
 latency_of o b = (slice_index_or o.banks b no_bank).latency
 

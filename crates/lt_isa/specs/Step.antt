@@ -25,6 +25,7 @@ start_of profile i cycle = cycle
 
 -- The place to which an offset leads. Every place outside the code is a fault, so a target before the code is
 -- represented by the place after its end.
+-- Rule: step/jmp.
 abbrev pub target_of : Parts → ℕ → ℤ → ℕ
 target_of o place (pos n) = place + n
 target_of o place (negsuc n) = if nat_lt n place then place - (n + 1) else length o.code
@@ -44,6 +45,7 @@ with_bound Unbound act = Faults
 with_bound (Bound bank block words) act = act bank block words
 
 -- the number of the block that a word names in a bank, and of the word that it names in a block
+-- Rule: profile/blocks.
 abbrev pub block_named : Parts → ℕ → ℤ → ℕ
 block_named o b word = unsigned_of word % blocks_of o b
 
@@ -55,6 +57,7 @@ abbrev pub loaded : State → ℕ → ℕ → ℕ → State
 loaded s k b a = set_slot s k (Bound b a (block_at s b a))
 
 -- what an instruction does
+-- Rules: step/nop, step/halt, step/li, step/ldb, step/stb, step/idb, step/ldw, step/stw, step/br.
 abbrev pub executed : Parts → State → Instr → StepResult
 executed o s Nop = Goes None (went_on o Nop s)
 executed o s Halt = Stops (passed o Halt false 0 s.place s)

@@ -38,6 +38,8 @@ unfoldable pub most_length : ℕ → List BankSpec → Shape → ℕ → ℕ →
 most_length w banks shape bank start = min (most_words shape) (blocks_in banks bank * w - start)
 
 -- a symbol may have its place, field by field: each field is in a range that the fields before it determine
+-- why: people read `LiesBehind`. This form gives each field's range in sequence, and so the errors of object files and
+-- texts.
 pub record FieldsFit (w : ℕ) (banks : List BankSpec) (before : List Symbol) (s : Symbol) : Type 0 where
   pub order : last_bank before ≤ s.bank
   pub bank : s.bank < length banks

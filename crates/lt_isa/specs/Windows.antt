@@ -17,6 +17,7 @@ pub record IsAccessStart (p : Profile) (cycle start : ℕ) : Type 0 where
 
 -- The cycle at which an access starts, computed. Before the window closes in this period, the access waits until it
 -- opens, which may be now. After that it waits for the opening in the next period.
+-- why: people read `IsAccessStart`. Only this crate unfolds the sum; all crates above use the clauses of `window_laws`.
 unfoldable pub access_start : Profile → ℕ → ℕ
 access_start p cycle =
     let into = cycle % p.period in

@@ -57,6 +57,7 @@ pub record PutsJoined (before after : SinkSeen) (traces : List (List Stamped)) (
   pub put : PutsLines before after (transfer_lines joined) all
 
 -- the lines about how cores ended were printed, and their status is the exit status; or the sink failed at one
+-- Rules: bus/halted, bus/spent.
 pub record PutsHalts (before after : SinkSeen) (halts : List (Option ℕ)) (status : ℕ) : Type 0 where
   pub put : PutsSaid before after
       (record { status = verdict_status (Shared (all_halted halts)); text = core_lines 0 halts }) status

@@ -215,7 +215,7 @@ fn put_lines<B: Bank + Drop, O: Sink>(
     }
 }
 
-/// The text of the trace of an accepted object on inputs that fit it. Fails only for want of memory.
+/// The text of the trace of an accepted object on inputs that fit it. Fails only if memory runs out.
 pub fn trace_text(
     alloc: Global,
     accepted: &Accepted,

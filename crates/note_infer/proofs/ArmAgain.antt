@@ -1,5 +1,5 @@
--- An arm that is walked is walked again from a lower state, under other notes that aren't within: it shows the same,
--- and less is unknown after it. And it carries what the ways carry.
+-- An arm that is walked is walked again from a lower state, under other notes that aren't within: it shows the same
+-- events, and less is unknown after it. And it carries what the ways carry.
 use Rattle.std.proofs.Common.{◌≡◌, ℕ, ◌+◌, ◌-◌, ◌<◌, ◌≤◌, ◌==◌, Bool, true, false, ◌&&◌, ◌||◌, nat_lt, ℤ, pos, negsuc, List, [], ◌∷◌, length, slice_get, inl, inr, Option, Some, None, refl, sym, ap, ◌∙◌, subst, arith}
 use Rattle.std.specs.Prelude.{if◌then◌else◌}
 use Rattle.std.specs.List.{list_any}

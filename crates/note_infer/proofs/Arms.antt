@@ -16,7 +16,7 @@ use Rattle.note_infer.proofs.ArmAgain.{shape-renoted, single-again, ends_ahead}
 use Rattle.note_infer.proofs.SameParts.{br_not_jmp, same_jump}
 use Rattle.note_infer.specs.Steps as step
 
--- what is walked is carried
+-- what the walk of an arm leaves, the transitions without notes carry too
 mutual
   pub walk-carries : (a : Parts) (depth end p : ℕ) (s : SymState) (pattern : Shown TreeEvent) (t : SymState)
       → WalksTo a depth end p s pattern t → IsSized s → CarriesTo (without_notes a) depth end p s t

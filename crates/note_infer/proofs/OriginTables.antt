@@ -45,7 +45,7 @@ module _ (o : Parts) (p : ℕ) (last before : List ℕ) (h : OriginsBelow o p la
       by r q lt t (inr ne) = h.told r q (omega (arith, lt, ne)) t
       by r q lt t (inl e) = absurd (none q (subst (λ (x : ℕ). IsTargetOf o [] x q) e t))
 
-  -- and where all that it leads to is one place
+  -- the same, if the place leads to only one other place
   module _ (target : ℕ) (only : (q : ℕ) → IsTargetOf o [] p q → q ≡ target) (here : p < length o.code) where
     abbrev link : ℕ
     link = get_or last target 0

@@ -1,4 +1,4 @@
--- What the check rules of an instruction where less is known to be secret.
+-- What the check decides about an instruction if fewer registers may be secret.
 use Rattle.std.proofs.Common.{◌≡◌, ℕ, Bool, true, false, not, ◌&&◌, ◌||◌, ℤ, slice_get, ◌⊎◌, inl, inr, Option, Some, None, refl, sym, ap, ◌∙◌}
 use Rattle.std.proofs.lemmas.Bool.{and_parts, and_from, false≢true}
 use Rattle.lt_isa.specs.declared.instructions.Instr.{Instr}

@@ -34,7 +34,7 @@ LeastNotesAreOne o = (one two : List Note) → ListLeastNotes o one → ListLeas
 abbrev pub LeastNotesExist : Parts → Type 0
 LeastNotesExist o = IsInRange o → AllReachable o → (notes : List Note) × ListLeastNotes o notes
 
--- where all places are reachable these are the least notes
+-- all places are reachable, and these are the least notes
 pub record HasLeastNotes (o : Parts) (notes : List Note) : Type 0 where
   pub reachable : AllReachable o
   pub listed : ListLeastNotes o notes
@@ -46,12 +46,19 @@ pub record IsInferred (o found : Parts) : Type 0 where
   pub is : found ≡ with_notes o notes
   pub accepts : Accepts found
 
+-- Rule: infer/note-count.
 pub record AreTooMany (o : Parts) (count : ℕ) : Type 0 where
   pub notes : List Note
   pub least : HasLeastNotes o notes
   pub many : most_notes < length notes
   pub is : count ≡ length notes
 
+-- why: by arguments that aren't clauses, reasons 5 and 6 come only at a crossed branch that compares public words,
+-- since elsewhere no more is secret than in the least states, and each target has its note. Reason 8 never comes: no
+-- region with a halt in it is crossed, so the target of its branch gets a note, and a note within a region is refused
+-- with 11 before its arms are walked. So the target would be the join, and no steps would lead from the halt to the
+-- place after it.
+-- Rule: infer/refused.
 pub record IsRefusedWith (o : Parts) (pc : ℕ) (reason : Reason) : Type 0 where
   pub notes : List Note
   pub least : HasLeastNotes o notes

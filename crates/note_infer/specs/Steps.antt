@@ -25,6 +25,7 @@ pub data IsReachable (o : Parts) : ℕ → Type 0 where
   Behind : (p q : ℕ) → IsReachable o p → LeadsTo o p q → IsReachable o q
 
 -- the lowest place of the code to which no steps lead
+-- Rule: infer/dead-code.
 pub record IsDead (o : Parts) (p : ℕ) : Type 0 where
   pub inside : p < length o.code
   pub dead : ¬ IsReachable o p

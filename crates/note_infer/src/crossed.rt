@@ -53,7 +53,7 @@ impl Crossed {
         }
     }
 
-    /// The branch at a place joins them. Want of memory leaves them as they were.
+    /// The branch at a place joins them. Running out of memory leaves them as they were.
     #[tactic(auto, using(crate::proofs::CrossedTables::tells_more))]
     pub fn join(&mut self, place: u32) -> Result<(), Memory>
         requires { place < self.old.size }

@@ -38,7 +38,7 @@ impl Joiners {
         }
     }
 
-    /// One more place. Want of memory leaves them as they were.
+    /// One more place. Running out of memory leaves them as they were.
     pub fn push(&mut self, place: u32) -> Result<(), Memory>
         ensures added { OnOk result (IsPermutation (place ∷ self.old) self.new) }
         ensures unchanged { OnErr result (self.new ≡ self.old) }

@@ -1,5 +1,5 @@
-//! Faults of objects and of assembly texts: why a file encodes no object, why the check rejects an object, why it gets no
-//! notes, why it has no place on a bus, and why an assembly text is no object.
+//! Faults of objects and of assembly texts: why a file isn't an object file, why the check rejects an object, why it
+//! gets no notes, why it can't share a bus, and why an assembly text doesn't define an object.
 //!
 //! Each function finds the first fault again, by the libraries that the program is built from, and writes the place, the
 //! reason, and what to write instead. No contract fixes these words; it is proved that each call ends, is safe, and names

@@ -68,14 +68,17 @@ list_fields n allowed item = do
   count ← number_field n allowed
   items_fields item count []
 
+-- Rule: object/magic.
 unfoldable pub magic_field : Fields ℕ
 magic_field = number_told NoObject 4 (λ n. n == little_number 4 magic)
 
 -- The format has two versions.
+-- Rule: object/version.
 unfoldable pub version_field : Fields ℕ
 version_field = number_told Version 2 (λ n. (n == 1) || (n == 2))
 
 -- the size of blocks and cycles of instructions, with memory that is always open
+-- Rules: object/block-log, object/cycles, object/taken.
 unfoldable pub cycles_fields : Fields Profile
 cycles_fields = do
   block_log ← number_field 1 (is_within least_block_log most_block_log)
@@ -95,6 +98,7 @@ cycles_fields = do
   })
 
 -- the window of a profile
+-- Rules: object/period, object/open, object/close.
 unfoldable pub window_fields : Profile → Fields Profile
 window_fields p = do
   period ← number_field 4 (is_within 2 most_period)
@@ -109,6 +113,7 @@ profile_fields = do
   cycles ← cycles_fields
   if version == 1 then NoField cycles else window_fields cycles
 
+-- Rules: object/blocks, object/latency.
 unfoldable pub bank_fields : List BankSpec → Fields BankSpec
 bank_fields before = do
   blocks ← number_field 4 (is_within 1 (most_blocks (length before)))
@@ -116,11 +121,13 @@ bank_fields before = do
   NoField (record { blocks = blocks; latency = latency })
 
 -- a length and as many bytes, which are a name that no earlier symbol has
+-- Rules: object/name-length, object/name.
 unfoldable pub name_fields : List Symbol → Fields (List ℕ)
 name_fields before = do
   n ← number_field 1 (is_within 1 32)
   FieldThen (record { size = n; allowed = is_new_name before; telling = Place }) NoField
 
+-- Rules: object/label, object/shape, object/bank, object/first-block, object/first-word, object/length.
 unfoldable pub symbol_fields : ℕ → List BankSpec → List Symbol → Fields Symbol
 symbol_fields w banks before = do
   name ← name_fields before
@@ -141,6 +148,7 @@ symbol_fields w banks before = do
     length = length;
   })
 
+-- Rules: object/note-place, object/note-secrets, object/note-slots.
 unfoldable pub note_fields : ℕ → List Note → Fields Note
 note_fields banks before = do
   pc ← number_field 4 (is_within (next_place before) (2 ^ 32 - 1))
@@ -149,6 +157,7 @@ note_fields banks before = do
   NoField (record { pc = pc; secrets = secrets; slots = slots })
 
 -- the operands of a kind of instruction; a field that isn't used is 0
+-- Rule: object/unused-field.
 unfoldable pub operand_fields : ℕ → Kind → Fields Instr
 operand_fields banks kind = do
   a ← number_field 1 (is_within 0 (limits_of banks kind).a)
@@ -160,12 +169,14 @@ operand_fields banks kind = do
       (record { a = a; b = b; c = c; offset = cast_signed w32 offset; constant = cast_signed w64 constant }))
 
 -- an opcode that names a kind of instruction, and then the operands
+-- Rule: object/instruction.
 unfoldable pub instruction_fields : ℕ → Fields Instr
 instruction_fields banks = do
   opcode ← number_field 1 (λ n. is_some (kind_named n))
   operand_fields banks (unwrap_or (kind_named opcode) Nop)
 
 -- the whole file; the code extends past the place of the last note
+-- Rules: object/banks, object/symbols, object/notes, object/instructions.
 unfoldable pub object_fields : Fields Parts
 object_fields = do
   begins ← magic_field

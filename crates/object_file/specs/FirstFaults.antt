@@ -23,6 +23,7 @@ pub record FieldBegins (bytes : List ℕ) (place : ℕ) : Type 0 where
   pub before : Fills object_fields (take place bytes) (FieldThen field next)
 
 -- The file ends within the field that begins at a place.
+-- Rule: object/truncated.
 pub record IsCutShort (bytes : List ℕ) (place : ℕ) : Type 0 where
   pub begins : FieldBegins bytes place
   pub short : length bytes < place + begins.field.size
@@ -34,6 +35,7 @@ told Version place text = BadVersion (little_number 2 text)
 told Place place text = BadField place
 
 -- A field is complete and isn't allowed, and the error reports it.
+-- Rule: object/field.
 pub record IsRefused (bytes : List ℕ) (fault : DecodeError) : Type 0 where
   pub place : ℕ
   pub begins : FieldBegins bytes place
@@ -46,6 +48,7 @@ abbrev pub end_of_field : {bytes : List ℕ} {fault : DecodeError} → IsRefused
 end_of_field field = field.place + field.begins.field.size
 
 -- The first p bytes encode an object, and more follow.
+-- Rule: object/trailing.
 pub record HasMore (bytes : List ℕ) (p : ℕ) : Type 0 where
   pub object : Parts
   pub in_range : IsInRange object

@@ -73,7 +73,7 @@ fn read_object(alloc: Global, bytes: &[u8]) -> Result<Object, DecodeError>
 
 /// The object that a file's bytes encode, or the file's first error; the file has at most 33,554,432 bytes. Fields are
 /// read in the order of the file. The first error is a field that is incomplete or isn't allowed, or bytes that follow
-/// the object. Out of memory says nothing about the file.
+/// the object. Running out of memory says nothing about the file.
 pub fn decode(alloc: Global, bytes: &[u8]) -> Result<Object, DecodeError>
     requires { length bytes.now ≤ 33554432 }
 

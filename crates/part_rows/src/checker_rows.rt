@@ -83,7 +83,7 @@ fn branching(alloc: Global, taken: i32, first: &[Instr], second: &[Instr]) -> Re
 }
 
 // The place and the number of the reason where a branch on a secret at place 3 with these arms is refused, and two
-// zeros where it is accepted.
+// zeros if it is accepted.
 fn refusal(
     alloc: Global,
     taken: i32,

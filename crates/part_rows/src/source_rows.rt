@@ -51,7 +51,7 @@ fn programs_are_printed_in_one_way(rt: HostRuntime) -> Result<(), Fail> {
     Ok(())
 }
 
-// An expression weighs its nodes, and both ways of a choice on a secret count twice.
+// An expression weighs its nodes, and both paths of a branch on a secret count twice.
 #[test]
 fn a_typed_program_has_its_weight(rt: HostRuntime) -> Result<(), Fail> {
     let typed = typed_of(

@@ -2,7 +2,7 @@ use run_data::{TraceError, read_trace, trace_text};
 use std::alloc::Global;
 use std::test::Fail;
 
-/// The number of the line that breaks a trace, where a block has eight words; 0 where it is whole.
+/// The number of the line that breaks a trace, where a block has eight words; 0 if it is complete.
 fn broken_line(alloc: Global, text: &[u8]) -> Result<u32, Fail> {
     if text.len() >= 1000 {
         return Err(Fail::from("too long"));

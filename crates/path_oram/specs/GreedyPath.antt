@@ -12,6 +12,8 @@ IsOff height leaf number = (level : ℕ) → level ≤ height → number ≢ on_
 
 -- from the places before an access to a block, whose leaf is `shown`, to the places after it. `filled`: blocks that no
 -- deeper bucket took are on this level, above it, or in the stash afterwards.
+-- why: by where the blocks are afterwards. `write_back_laws` states the same from the leaf to the root, bucket by
+-- bucket.
 pub record GreedyPath (before : Places) (block shown : ℕ) (after : Places) : Type 0 where
   pub leaf : shown ≡ slice_index before.leaves block
   pub height : after.height ≡ before.height

@@ -43,6 +43,7 @@ fn given(slot: Placed, block: u32, leaf: u32) -> Placed
 }
 
 /// Gives a block another leaf, in its slot.
+/// why: each slot of the stash is read and written, wherever the block is.
 pub(crate) fn give_leaf(stash: &mut Vec<Placed>, block: u32, leaf: u32)
     ensures slots { stash.new.items ≡ map (with_leaf block leaf) stash.old.items }
     ensures capacity { vec_capacity stash.new ≡ vec_capacity stash.old }

@@ -6,7 +6,7 @@ use Rattle.lt_isa.specs.declared.instructions.Instr.TheVariants.{Nop, Halt, Li, 
 use Rattle.lt_isa.specs.Prelude.{start_of, HasUnitPeriod}
 use Rattle.lt_isa.proofs.Windows.{access_start-at_once}
 
--- where memory is always open a step begins at once
+-- if memory is always open, a step begins at once
 pub start_of-at_once : (p : Profile) → HasUnitPeriod p → (i : Instr) (cycle : ℕ) → cycle ≡ start_of p i cycle
 start_of-at_once p whole (Ldb k b r) cycle = sym (access_start-at_once p whole cycle)
 start_of-at_once p whole (Stb k) cycle = sym (access_start-at_once p whole cycle)

@@ -22,7 +22,7 @@ abbrev pub EndsAs : List Stamped → End → Type 0
 EndsAs events (Halted at) = HaltsAt events at × ((other : ℕ) → HaltsAt events other → other ≡ at)
 EndsAs events Spent = NoHalt events
 
--- the run may be gone on with
+-- the run used all its cycles, so it can be continued
 abbrev pub is_spent : Result End WatchFailed → Bool
 is_spent (Ok (Halted at)) = false
 is_spent (Ok Spent) = true

@@ -4,7 +4,7 @@ use Rattle.std.specs.Prelude.{◌≡◌, ◌≢◌, ◌≤◌, ℕ, zero, suc, L
 use Rattle.banks.specs.declared.bank.Leaves.{Leaves}
 use Rattle.banks.specs.Accesses.{Access, in_bank}
 
--- bank number b of a machine with these oblivious banks, where it is one: they are numbered from 2
+-- bank number b of a machine with these oblivious banks, if it is one: they are numbered from 2
 abbrev pub oram_of : {B : Type 0} → List B → ℕ → Option B
 oram_of orams zero = None
 oram_of orams (suc zero) = None

@@ -19,7 +19,7 @@ abbrev pub held_slot : Option Held → Slot
 held_slot None = Unbound
 held_slot (Some h) = Bound h.bank h.block h.words.now
 
--- the slot with another word, where it is bound
+-- the slot with another word, if it is bound
 abbrev pub slot_with_word : ℕ → ℤ → Slot → Slot
 slot_with_word i word Unbound = Unbound
 slot_with_word i word (Bound b a words) = Bound b a (slice_set words i word)

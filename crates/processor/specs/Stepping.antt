@@ -70,7 +70,7 @@ abbrev pub StaysOnFault : {B : Type 0} → Untold → Running B → Running B �
 StaysOnFault done.Fault before now = now ≡ before
 StaysOnFault other before now = Unit {0}
 
--- the slot whose access is to be told is a slot, and bound
+-- the access that is still to be reported is of a slot that exists and is bound
 abbrev pub NamesSlot : Untold → State → Type 0
 NamesSlot (done.Read k leaves) t = k < 8
 NamesSlot (done.Wrote k leaves) t = k < 8

@@ -11,6 +11,8 @@ use Rattle.banks.specs.ObliviousEvents.{oblivious}
 use Rattle.processor.specs.ObliviousBanks.{paths_shown}
 
 -- a watcher's report: an event, or the paths that an access to an oblivious bank showed
+-- why: one list for both, in the order of the calls, so the events before a path are those that were reported before
+-- it.
 pub data WatcherTold : Type 0 where
   AnEvent : (event : Stamped) → WatcherTold
   APath : (stamp bank : ℕ) (leaves : Leaves) → WatcherTold

@@ -61,7 +61,7 @@ impl Scratchpad {
         Ok(Scratchpad { words, cells })
     }
 
-    /// What a slot holds, none where it is unbound.
+    /// What a slot holds, none if it is unbound.
     pub(crate) fn held(&self, slot: u8) -> Option<Held<'_>>
         requires { slot < 8 }
         ensures value { held_slot result ≡ slice_index_or self.now.slots slot Unbound }

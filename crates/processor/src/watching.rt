@@ -21,10 +21,14 @@ pub struct WatchFailed;
 pub trait Watch {
     /// Whether the second watcher is the first one after calls in which it heard these things, and no others, in this
     /// order.
+    /// why: a relation and not a list that is read back, so a watcher that writes lines needs no parser for them, and
+    /// one that forwards to another uses that one's relation.
     ghost hears: { Self → List WatcherTold → Self → Type 0 };
 
     /// Whether the watcher reveals the events that it hears: then those that it heard since another are one list. One
     /// that doesn't may hear any.
+    /// why: a watcher that prints lines reveals no events, since a line determines its event only if its numbers are in
+    /// their ranges, and in a contract the words of an event have no range.
     ghost tells: { Self → Type 0 };
 
     /// How many calls the watcher failed at.
@@ -37,6 +41,7 @@ pub trait Watch {
     ghost torn: { Self → WatcherTold → Type 0 };
 
     /// What stays the same of a watcher through all its calls, such as the sink that it writes lines to.
+    /// why: a caller that lends a sink to a watcher knows that the same sink is returned.
     ghost same: { Self → Self → Type 0 };
 
     /// An event is seen. A watcher that reveals its events after the call revealed them before.

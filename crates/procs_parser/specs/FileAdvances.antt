@@ -208,7 +208,7 @@ file_at (Outside decls procedures) (Some body) =
     Some (record { decls = decls; procedures = procedures; body = block_of body })
 file_at _ _ = None
 
--- the file that was read, where it is whole
+-- the file that was read, if it is complete
 abbrev pub program_of : ParserState → Option File
 program_of (Between decls) = Some (record { decls = decls; procedures = []; body = Nothing })
 program_of (Doing front blocks) = file_at front (complete_of with_calls blocks)

@@ -33,7 +33,7 @@ fn is_hidden_token(kind: &Kind) -> bool
     }
 }
 
-// A token before statements.
+// Reads a token before the first statement.
 fn start(
     alloc: Global,
     state: &mut ParserState,
@@ -137,7 +137,7 @@ fn unbegun(alloc: Global, start: Start) -> Option<ProcFile>
     }
 }
 
-// The file, where it is whole.
+// The file, if it is complete.
 fn conclude(alloc: Global, state: ParserState) -> Result<Option<ProcFile>, Memory>
     ensures { IfOk result (λ p. option_map file_of p ≡ program_of (state_of state)) }
 {

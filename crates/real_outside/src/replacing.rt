@@ -95,6 +95,8 @@ fn take_name<R: Files>(rt: &R, beside: &str, path: &str) -> io::Result<bool> {
 
 // The mode with which a new file is created. If there is no old file, the umask and the folder's default ACL determine
 // the rights.
+// why: the toolchain can't read the umask. So a file with a new name is created with the system's mode, is made private
+// while it is still empty, and gets the mode back when it is whole.
 fn mode_at_first(rights: Option<Rights>) -> u32 {
     match rights {
         Some(_) => PRIVATE,
@@ -138,6 +140,8 @@ fn sync_folder_of<R: Files>(rt: &R, path: &str) -> io::Result<()> {
 }
 
 // Syncs a file. Pipes, devices and the folders of some file systems can't be synced, which doesn't count as a failure.
+// why: a failed sync is a failed write, so a failure to close would lose nothing. Files are closed when they are
+// dropped, which returns nothing.
 fn sync<F: OpenFile>(file: &F) -> io::Result<()> {
     match file.sync_all() {
         Err(error) if is_no_sync(error.kind()) => Ok(()),

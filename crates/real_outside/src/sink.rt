@@ -21,6 +21,8 @@ const TAKES_NONE: &str = "it takes no more bytes";
 /// `put` or at the flush. As a sink its bytes aren't visible to contracts, since those of standard output aren't. Its
 /// own clauses state what the writer was handed, if that is visible. [`RealSink::failure`] returns the cause of the
 /// last failure.
+/// why: over a writer and not the runtime, so that a test can pass one that fails. It buffers the bytes itself: if the
+/// standard library's buffered writer fails, it doesn't say what it took.
 #[derive(Drop)]
 pub struct RealSink<W: Write + Drop> {
     writer: W,

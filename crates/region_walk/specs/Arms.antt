@@ -10,7 +10,7 @@ use Rattle.region_walk.specs.declared.walks.Region.{Region}
 use Rattle.region_walk.specs.States.{IsCommon}
 use Rattle.region_walk.specs.declared.walks.Region.TheVariants as region
 
--- two ways that show the same become one, with what both leave alike
+-- two paths that show the same events become one, with what is equal after both
 pub record IsOneWay (jump : ℕ) (untaken taken way : Way) : Type 0 where
   pub first : way.pattern ≡ with_gap untaken.pattern jump
   pub second : way.pattern ≡ taken.pattern

@@ -87,7 +87,7 @@ IsLedOver o depth end place offset nodes s Unshaped nodes' s' = LeadsOverNone o 
 IsLedOver o depth end place offset nodes s Memory nodes' s' = Unit {0}
 
 -- What is known, k, is carried over the region of a branch at p in public code to its join, where next is known then;
--- or nothing is carried. Out of memory says nothing.
+-- or nothing is carried. Running out of memory says nothing.
 pub record IsCarriedTo (o : Parts) (p : ℕ) (offset : ℤ) (k : Known) (join : ℕ) (next : Known) : Type 0 where
   pub joins : JoinsIn o p offset k join next
   pub behind : p + 1 < join

@@ -43,7 +43,7 @@ same_part x y = (x.0 == y.0) && same_event x.1 y.1
 unfoldable pub same_shown : Shown TreeEvent → Shown TreeEvent → Bool
 same_shown p q = (p.last == q.last) && pointwise same_part p.parts q.parts
 
--- both ways must show the same, and what both arms leave alike is known at the join
+-- both paths must show the same events, and what is equal after both arms is known at the join
 abbrev pub compared_arms : Parts → ℕ → ℕ → WalkFound → WalkFound → Crossing
 compared_arms o p join (Stops place reason) second = Blocked place reason
 compared_arms o p join (Walked a s) (Stops place reason) = Blocked place reason

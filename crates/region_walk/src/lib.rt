@@ -1,4 +1,4 @@
-//! The walk of secret regions: the outcome of a branch on a secret, whose two arms must show the same.
+//! The walk of secret regions: the outcome of a branch on a secret, whose two arms must show the same events.
 //!
 //! [`cross`] computes exactly what the relations of the walk state over trees: a region is crossed, with what is known
 //! at its join, or a place blocks it. [`carry`] carries what is known over a region, whether or not the check refuses

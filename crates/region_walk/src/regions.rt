@@ -16,8 +16,8 @@ use trace_patterns::{Known, Reason};
 /// The outcome of the region that a branch on a secret opens in public code.
 #[derive(Debug, Drop)]
 pub enum Crossing {
-    /// Both ways through the region show the same. They meet at the join, a place after the branch, and this is known
-    /// there.
+    /// Both paths through the region show the same events. They meet at the join, a place after the branch, and this is
+    /// known there.
     Crosses { join: u32, known: Known },
     /// The region is refused, for a reason, at the place that blocks it first: for its shape; or where the walk of the
     /// first arm stops; or where that of the second stops; or at the branch, if the two ways show different things.

@@ -128,8 +128,8 @@ fn go_on(way: &mut Way, crossed: Way, join: u32) -> Found
     }
 }
 
-/// Crosses the region of a branch at `place` with `offset`; its join is at the end of `arm` at the latest. Both arms are
-/// walked from one state, the first arm first, and must show the same.
+/// Crosses the region of a branch at `place` with `offset`; its join is at the end of `arm` at the latest. Both arms
+/// are walked from one state, the first arm first, and must show the same events.
 // Each arm of a match returns, since a way is large and would be copied once more if it were the value of the match.
 #[cycle(walks)]
 pub fn region_of(

@@ -1,4 +1,4 @@
--- What lacks room first is what the program is refused for, and nothing lacks it exactly where there is room.
+-- A program is rejected for what lacks room first. Nothing lacks room exactly if the program has room.
 use Rattle.std.proofs.Common.{◌≡◌, ℕ, ◌+◌, ◌^◌, ◌<◌, ◌≤◌, nat_lt, Bool, true, false, cond, List, [], ◌∷◌, length, map, get_or, Option, Some, None, refl, sym, ap, ◌∙◌, subst, arith}
 use Rattle.std.specs.Prelude.{count_by}
 use Rattle.std.specs.List.{range_with_len}

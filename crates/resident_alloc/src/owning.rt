@@ -63,7 +63,7 @@ fn own_most_in_turn(arrays: &[Want]) -> usize
     if arrays.len() <= 2 { 2 } else { 0 }
 }
 
-/// How many short arrays of a class may have a slot of their own. The only error is want of memory.
+/// How many short arrays of a class may have a slot of their own. The only error is running out of memory.
 pub(crate) fn own_most(
     alloc: Global,
     size: u32,
@@ -93,7 +93,7 @@ pub(crate) fn own_most(
     }
 }
 
-// Whether an array that isn't shared has a slot of its own. The only error is want of memory.
+// Whether an array that isn't shared has a slot of its own. The only error is running out of memory.
 fn is_own(alloc: Global, context: Context, v: Want) -> Result<bool, Memory>
     requires { IsPlannable context }
     ensures { IfOk result (λ own. own ≡ is_own context.entry.size context.entry.all.now context.entry.before.now v) }
@@ -113,7 +113,7 @@ fn otherwise_stored(class: Class) -> Storage
     }
 }
 
-// How an array is stored. The only error is want of memory.
+// How an array is stored. The only error is running out of memory.
 fn array_storage(alloc: Global, context: Context, v: Want) -> Result<Storage, Memory>
     requires { IsPlannable context }
     ensures { IfOk result (λ storage.
@@ -129,7 +129,7 @@ fn array_storage(alloc: Global, context: Context, v: Want) -> Result<Storage, Me
     }
 }
 
-/// How a variable is stored, where others are declared before it. The only error is want of memory.
+/// How a variable is stored, where others are declared before it. The only error is running out of memory.
 pub(crate) fn storage_of(alloc: Global, context: Context, v: Want) -> Result<Storage, Memory>
     requires { IsPlannable context }
     ensures { IfOk result (λ storage.
@@ -142,7 +142,7 @@ pub(crate) fn storage_of(alloc: Global, context: Context, v: Want) -> Result<Sto
     }
 }
 
-/// How many secret arrays with a secret index have a slot of their own. The only error is want of memory.
+/// How many secret arrays with a secret index have a slot of their own. The only error is running out of memory.
 pub(crate) fn own_secret(alloc: Global, size: u32, all: &[Want]) -> Result<u32, Memory>
     requires size { Within 8 512 size }
     requires short { AreShort all.now }
@@ -161,7 +161,7 @@ fn is_skipped(size: u32, left: usize, v: Want) -> bool
     0 < left && is_short(size, v)
 }
 
-// Some arrays without the first n short ones. The only error is want of memory.
+// Some arrays without the first n short ones. The only error is running out of memory.
 fn without_short(alloc: Global, size: u32, n: usize, vs: &[Want]) -> Result<Vec<Want>, Memory>
     ensures { IfOk result (λ out. out.items ≡ without_short size n vs.now) }
 {
@@ -177,7 +177,7 @@ fn without_short(alloc: Global, size: u32, n: usize, vs: &[Want]) -> Result<Vec<
     Ok(out)
 }
 
-/// The arrays of the oblivious banks, among some variables. The only error is want of memory.
+/// The arrays of the oblivious banks, among some variables. The only error is running out of memory.
 pub(crate) fn in_oblivious_banks(
     alloc: Global,
     size: u32,

@@ -98,7 +98,7 @@ fn oblivious_place(size: u32, before: &[Want], v: Want) -> Place
     block_place(2 + turn as u8, blocks_in_turn(size, turn, before), v)
 }
 
-// The place of a public array that isn't shared. The only error is want of memory.
+// The place of a public array that isn't shared. The only error is running out of memory.
 fn plain_place(alloc: Global, context: Context, v: Want) -> Result<Place, Memory>
     requires { IsPlannable context }
     ensures { IfOk result (λ place.
@@ -110,7 +110,7 @@ fn plain_place(alloc: Global, context: Context, v: Want) -> Result<Place, Memory
     Ok(block_place(0, block, v))
 }
 
-// The place of a secret array without a secret index that isn't shared. The only error is want of memory.
+// The place of a secret array without a secret index that isn't shared. The only error is running out of memory.
 fn encrypted_place(alloc: Global, context: Context, v: Want) -> Result<Place, Memory>
     requires { IsPlannable context }
     ensures { IfOk result (λ place.
@@ -123,7 +123,7 @@ fn encrypted_place(alloc: Global, context: Context, v: Want) -> Result<Place, Me
     Ok(block_place(1, block, v))
 }
 
-// The place of a secret array with a secret index and a slot of its own. The only error is want of memory.
+// The place of a secret array with a secret index and a slot of its own. The only error is running out of memory.
 fn own_place(alloc: Global, context: Context, v: Want) -> Result<Place, Memory>
     requires { IsPlannable context }
     ensures { IfOk result (λ place.
@@ -135,7 +135,7 @@ fn own_place(alloc: Global, context: Context, v: Want) -> Result<Place, Memory>
     Ok(block_place(1, block as u32, v))
 }
 
-// The place of any other secret array with a secret index. The only error is want of memory.
+// The place of any other secret array with a secret index. The only error is running out of memory.
 fn place_in_oblivious(alloc: Global, context: Context, v: Want) -> Result<Place, Memory>
     requires { IsPlannable context }
     ensures { IfOk result (λ place.
@@ -146,7 +146,7 @@ fn place_in_oblivious(alloc: Global, context: Context, v: Want) -> Result<Place,
     Ok(oblivious_place(size, earlier.as_slice(), v))
 }
 
-/// Where a variable is stored, by its class and its storage. The only error is want of memory.
+/// Where a variable is stored, by its class and its storage. The only error is running out of memory.
 pub(crate) fn place_by(
     alloc: Global,
     context: Context,

@@ -96,7 +96,7 @@ fn pins_of(planned: &[Planned]) -> [Option<Pin>; 8]
     ]
 }
 
-// The blocks of a bank. The only error is want of memory.
+// The blocks of a bank. The only error is running out of memory.
 fn resident_blocks(alloc: Global, size: u32, all: &[Want], bank: u8) -> Result<u32, Memory>
     requires size { Within 8 512 size }
     requires short { AreShort all.now }
@@ -115,7 +115,7 @@ fn resident_blocks(alloc: Global, size: u32, all: &[Want], bank: u8) -> Result<u
     Ok(blocks_in_turn(size, (bank - 2) as usize, arrays.as_slice()))
 }
 
-// The number of banks. The only error is want of memory.
+// The number of banks. The only error is running out of memory.
 fn resident_banks(alloc: Global, size: u32, all: &[Want]) -> Result<u8, Memory>
     requires size { Within 8 512 size }
     requires short { AreShort all.now }
@@ -125,7 +125,7 @@ fn resident_banks(alloc: Global, size: u32, all: &[Want]) -> Result<u8, Memory>
     Ok(2 + arrays.len().min(8) as u8)
 }
 
-// The blocks of each bank. The only error is want of memory.
+// The blocks of each bank. The only error is running out of memory.
 fn blocks_of_banks(alloc: Global, size: u32, all: &[Want]) -> Result<Vec<u32>, Memory>
     requires size { Within 8 512 size }
     requires short { AreShort all.now }
@@ -140,7 +140,7 @@ fn blocks_of_banks(alloc: Global, size: u32, all: &[Want]) -> Result<Vec<u32>, M
     Ok(blocks)
 }
 
-// The plan for some variables. The only error is want of memory.
+// The plan for some variables. The only error is running out of memory.
 fn plan_of(alloc: Global, size: u32, all: &[Want]) -> Result<ResidentPlan, Memory>
     requires size { Within 8 512 size }
     requires short { AreShort all.now }

@@ -34,7 +34,7 @@ fn in_turn(slot: u8, arrays: usize) -> u8
 }
 
 // Of two slots that serve the arrays of a class alternately, the one for an array that isn't shared, where others are
-// declared before it. The only error is want of memory.
+// declared before it. The only error is running out of memory.
 fn turn_slot(alloc: Global, context: Context, class: Class, slot: u8) -> Result<u8, Memory>
     requires context { IsPlannable context }
     requires few { slot < 8 }
@@ -47,7 +47,7 @@ fn turn_slot(alloc: Global, context: Context, class: Class, slot: u8) -> Result<
     Ok(in_turn(slot, earlier.len()))
 }
 
-// The slot of a secret array with a secret index and a slot of its own. The only error is want of memory.
+// The slot of a secret array with a secret index and a slot of its own. The only error is running out of memory.
 fn own_slot(alloc: Global, context: Context) -> Result<u8, Memory>
     requires { IsPlannable context }
     ensures { IfOk result (λ slot.
@@ -58,7 +58,7 @@ fn own_slot(alloc: Global, context: Context) -> Result<u8, Memory>
     Ok(spare_slot(short_among(size, earlier.as_slice())))
 }
 
-/// The slot that serves a variable of a class, by its storage. The only error is want of memory.
+/// The slot that serves a variable of a class, by its storage. The only error is running out of memory.
 pub(crate) fn slot_by(
     alloc: Global,
     context: Context,

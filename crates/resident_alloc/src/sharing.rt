@@ -45,7 +45,7 @@ fn is_left_out(class: Class, room: u32, v: Want) -> bool
     is_of(class, v) && room < v.words
 }
 
-// The arrays of a class that took nothing of a room. The only error is want of memory.
+// The arrays of a class that took nothing of a room. The only error is running out of memory.
 fn left_out(alloc: Global, class: Class, room: u32, vs: &[Want]) -> Result<Vec<Want>, Memory>
     ensures { IfOk result (λ out. out.items ≡ left_out class room vs.now) }
 {
@@ -96,8 +96,8 @@ pub(crate) fn is_shared(size: u32, all: &[Want], before: &[Want], v: Want) -> bo
     v.words <= room_after(v.class, room_for(size, all, v.class), before)
 }
 
-/// The arrays of a class, among some variables, that don't share the block of the scalars. The only error is want of
-/// memory.
+/// The arrays of a class, among some variables, that don't share the block of the scalars. The only error is running
+/// out of memory.
 pub(crate) fn unshared(
     alloc: Global,
     size: u32,

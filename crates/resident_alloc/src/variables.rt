@@ -11,7 +11,7 @@ use crate::wants::{Context, Want};
 use gr_base::Memory;
 use std::alloc::Global;
 
-// What is planned for a variable, where others are declared before it. The only error is want of memory.
+// What is planned for a variable, where others are declared before it. The only error is running out of memory.
 fn plan_variable(alloc: Global, context: Context, v: Want) -> Result<Planned, Memory>
     requires { IsPlannable context }
     ensures { IfOk result (λ of. of ≡ planned context.entry.size context.entry.all.now context.entry.before.now v) }
@@ -26,7 +26,7 @@ fn plan_variable(alloc: Global, context: Context, v: Want) -> Result<Planned, Me
     })
 }
 
-/// What is planned for each of some variables, in order of declaration. The only error is want of memory.
+/// What is planned for each of some variables, in order of declaration. The only error is running out of memory.
 pub(crate) fn planned_all(alloc: Global, size: u32, all: &[Want]) -> Result<Vec<Planned>, Memory>
     requires size { Within 8 512 size }
     requires short { AreShort all.now }

@@ -43,7 +43,7 @@ pub(crate) fn count_of(class: Class, vs: &[Want]) -> usize
     vs.iter().filter(|v| is_of(class, **v)).count()
 }
 
-/// What each variable of a program wants, in order of declaration. The only error is want of memory.
+/// What each variable of a program wants, in order of declaration. The only error is running out of memory.
 pub(crate) fn wants_of(alloc: Global, p: &Program) -> Result<Vec<Want>, Memory>
     requires typed { IsTyped (source_of p.now) }
     requires within { IsWithinLimits (source_of p.now) }

@@ -20,7 +20,7 @@ use Rattle.run_data.specs.Prelude.{json_of, word_of, list_of, listed_values, fir
 use Rattle.run_data.proofs.Fits.{given_fits}
 use Rattle.json.specs.Json as json
 
--- a number is a word where it is an integer of 64 bits
+-- a number is a word if it is an integer of 64 bits
 abbrev Fits : Num → Type 0
 Fits n = (z : ℤ) → as_i64 n ≡ Some z → IsWord z
 

@@ -6,7 +6,7 @@ use Rattle.run_data.specs.Prelude.{line_of, ending_text, LineFits, GoesOn, AreEv
 use Rattle.run_data.proofs.TraceSpelling.{same-line}
 use Rattle.run_data.proofs.TraceParts.{no_end}
 
--- what may follow an event, in both ways of saying it
+-- what may follow an event, in both paths of saying it
 GoesOn-from : (size least : ℕ) (e : Observed) (more : List Stamped) (halted : Bool)
     → MayFollow (is_halt e) size least more halted → GoesOn e more halted (AreEvents size least more halted)
 GoesOn-from size least Halted more halted follows = follows

@@ -14,10 +14,11 @@ use Rattle.run_data.specs.declared.errors.InputError.{InputError}
 use Rattle.run_data.specs.declared.errors.InputError.TheVariants.{BadJson, NotAnObject, UnknownName, WrongShape, WrongLength, NotAWord}
 
 -- the JSON value that bytes encode, if they are text that encodes one
+-- Rule: input/json.
 abbrev pub json_of : List ℕ → Option Data
 json_of bytes = if is_utf8 bytes then read bytes else None
 
--- the word that a value is, where it is an integer of 64 bits
+-- the word that a value is, if it is an integer of 64 bits
 abbrev pub word_of : Data → Option ℤ
 word_of value = option_and_then as_i64 (as_number value)
 
@@ -39,16 +40,19 @@ has_length Scalar wanted count = true
 has_length Array wanted count = count == wanted
 
 -- what is wrong with what is listed for a variable: the length goes before the words
+-- Rules: input/length, input/word.
 abbrev pub list_fault : Want → List Data → Option InputError
 list_fault want values =
     if not (has_length want.shape want.length (length values)) then Some (WrongLength want.name)
     else (if list_all is_word values then None else Some (NotAWord want.name))
 
 -- what is wrong with a variable's value: the shape goes first
+-- Rule: input/shape.
 abbrev pub value_fault : Want → Data → Option InputError
 value_fault want value = option_map_or (list_fault want) (listed_values want.shape value) (Some (WrongShape want.name))
 
 -- what is wrong with a named value: no variable with this name goes first
+-- Rule: input/unknown.
 abbrev pub named_fault : List Want → List ℕ → Data → Option InputError
 named_fault [] name value = Some (UnknownName name)
 named_fault (want ∷ wants) name value =
@@ -82,6 +86,7 @@ abbrev pub inputs_in : List Want → Members → Result (List (List ℤ)) InputE
 inputs_in wants members = unless_fault (first_input_fault wants members) (map (words_given members) wants)
 
 -- the inputs that a value gives, or its first fault
+-- Rule: input/object.
 abbrev pub inputs_of : List Want → Option Data → Result (List (List ℤ)) InputError
 inputs_of wants None = Err BadJson
 inputs_of wants (Some value) = option_map_or (inputs_in wants) (as_object value) (Err NotAnObject)

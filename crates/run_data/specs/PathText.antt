@@ -7,6 +7,7 @@ abbrev pub leaves_text : List ℕ → List ℕ
 leaves_text leaves = flat_map (λ leaf. 32 ∷ decimal leaf) leaves
 
 -- the paths that an access to an oblivious bank showed
+-- Rules: trace/path, trace/paths.
 abbrev pub path_line : ℕ → ℕ → List ℕ → List ℕ
 path_line stamp bank leaves = decimal stamp ++ codes " P" ++ decimal bank ++ leaves_text leaves ++ codes "\n"
 
@@ -19,6 +20,7 @@ abbrev pub levels_head : ℕ → List ℕ
 levels_head bank = codes "levels " ++ decimal bank
 
 -- the levels of a bank's blocks, in order
+-- Rule: trace/levels.
 abbrev pub levels_line : ℕ → List (Option ℕ) → List ℕ
 levels_line bank levels = levels_head bank ++ flat_map level_text levels ++ codes "\n"
 

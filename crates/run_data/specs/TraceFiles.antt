@@ -24,12 +24,12 @@ stamped_in line = seen_at line.stamp (observed_in line.event)
 abbrev pub file_events : TraceFile → List Stamped
 file_events file = map stamped_in file.lines.items
 
--- a line that is named breaks the grammar; want of memory says nothing of the text
+-- a line that is named breaks the grammar; running out of memory says nothing about the text
 abbrev pub Breaks : ℕ → List ℕ → TraceError → Type 0
 Breaks size text (BadLine n) = BreaksAt size text n
 Breaks size text Memory = Unit {0}
 
--- the file is that of these events; only want of memory keeps it from being read
+-- the file is that of these events; only running out of memory keeps it from being read
 abbrev pub IsReadAs : Result TraceFile TraceError → List Stamped → Bool → Type 0
 IsReadAs (Ok file) events halted = (file_events file ≡ events) × (file.halted ≡ halted)
 IsReadAs (Err error) events halted = error ≡ Memory

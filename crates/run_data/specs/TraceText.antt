@@ -8,6 +8,7 @@ use Rattle.lt_isa.specs.Trace.{Stamped}
 abbrev pub words_text : List ℤ → List ℕ
 words_text words = flat_map (λ word. 32 ∷ signed_decimal word) words
 
+-- Rules: trace/plain, trace/encrypted, trace/oblivious, trace/halt.
 abbrev pub event_text : Observed → List ℕ
 event_text (RamRead block words) = codes "D r " ++ decimal block ++ words_text words
 event_text (RamWrite block words) = codes "D w " ++ decimal block ++ words_text words

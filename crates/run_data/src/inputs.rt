@@ -21,7 +21,7 @@ pub fn read_inputs(alloc: Global, wants: &[Want], json: &[u8]) -> Result<Inputs,
     requires distinct { AreDistinct wants.now }
     requires size { length json.now ≤ INPUT_BYTES }
     ensures read { IfOk result (λ inputs. inputs_of wants.now (json_of json.now) ≡ Ok inputs) }
-    // Want of memory comes at any time and says nothing of the text.
+    // Running out of memory comes at any time and says nothing of the text.
     ensures first { IfErr result (λ e. e ≢ InputError.Memory → inputs_of wants.now (json_of json.now) ≡ Err e) }
     ensures fits { IfOk result (λ inputs. AreVariables wants.now → FitsWants wants.now inputs) }
 {
@@ -48,7 +48,7 @@ fn inputs_from(alloc: Global, wants: &[Want], members: &GivenMembers) -> Result<
     Ok(gather(alloc, wants, members)?)
 }
 
-/// Whether all members give their variables words; else the first fault.
+/// Whether all members give words to their variables; otherwise the first fault.
 fn check_members(alloc: Global, wants: &[Want], members: &GivenMembers) -> Result<(), InputError>
     ensures none { OnOk result (first_given_fault wants.now (entries_view members.now.entries) ≡ None) }
     ensures few { OnOk result (btree_map_len members.now ≤ length wants.now) }
@@ -176,7 +176,7 @@ fn zeros(alloc: Global, count: u32) -> Result<Vec<i64>, Memory>
     Ok(vec![in alloc; 0; count as usize]?)
 }
 
-/// A word, 0 where there is none.
+/// A word, 0 if there is none.
 fn one_word(alloc: Global, word: Option<i64>) -> Result<Vec<i64>, Memory>
     ensures word { IfOk result (λ words. words.items ≡ unwrap_or word (pos 0) ∷ []) }
     ensures words { IfOk result (λ words. AreWords words.items) }

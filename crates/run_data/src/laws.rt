@@ -24,7 +24,7 @@ pub fn output_laws()
 {}
 
 /// Writes a trace as text and reads the text, where a block has 2^`block_log` words: the trace is the same, and only
-/// want of memory keeps it from being read.
+/// running out of memory keeps it from being read.
 pub fn written_again(
     alloc: Global,
     file: &TraceFile,

@@ -52,7 +52,7 @@ pub fn put_levels_head<O: Sink>(out: &mut O, bank: u8) -> Result<(), SinkFailed>
     put_piece(out, line.as_slice())
 }
 
-/// Puts the level of one block, none where it is in the stash. A sink that fails has gained less than it.
+/// Prints the level of one block, or that it is in the stash. A sink that fails has received a proper prefix of it.
 pub fn put_level<O: Sink>(out: &mut O, level: Option<u32>) -> Result<(), SinkFailed>
     ensures { PutsText (O.seen out.old).held (O.seen out.new).held (O.seen out.old).faults (O.seen out.new).faults
         (level_text level) result }

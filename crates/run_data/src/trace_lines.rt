@@ -114,7 +114,7 @@ fn read_mark(size: usize, piece: &[u8]) -> Option<SeenEvent>
     }
 }
 
-/// The oblivious bank with this number, none where the number is that of no bank or of another kind of bank.
+/// The oblivious bank with this number; `None` if no bank has the number, or a bank of another kind.
 fn oblivious_bank(number: u32) -> Option<u8>
     ensures some { IfSome result (λ bank. (bank ≡ number) × (2 ≤ bank) × (bank ≤ 9)) }
     ensures none { IfNone result (2 ≤ number → number ≤ 9 → ⊥) }

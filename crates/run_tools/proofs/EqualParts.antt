@@ -1,4 +1,4 @@
--- Events are equal exactly where their parts are.
+-- Events are equal exactly if their parts are.
 use Rattle.std.proofs.Common.{◌≡◌, ℕ, zero, suc, ℤ, List, refl, sym, ap, ◌∙◌}
 use Rattle.lt_isa.specs.Prelude.{Observed, RamRead, RamWrite, EncRead, EncWrite, Oram, Halted, Stamped, seen_at}
 use Rattle.run_tools.specs.Prelude.{HaveEqualParts, kind_of, number_of, words_of, observed_in, stamped_of}

@@ -23,6 +23,7 @@ Halts events = (at : ℕ) × HaltsAt events at
 
 -- The meaning of a status for the traces of two runs: 0, they are equal, and the runs halt; 1, they differ; 10, they
 -- are equal below the last cycle, and no run halts. There is no other.
+-- Rule: call/tool.
 pub data SaysOfBoth (first second : List Stamped) : ℕ → Type 0 where
   SaysHalted : first ≡ second → Halts first → SaysOfBoth first second 0
   SaysOther : first ≢ second → SaysOfBoth first second 1

@@ -93,7 +93,7 @@ fn slot_behind(before: &[Place], place: Place) -> u8
 
 /// Gives each variable its slot, where `places` was answered by [`bank_alloc::banks`]: slot 0 for the public scalars
 /// and slot 1 for the secret ones, slots 2 and 3 in turn for arrays of plain memory, 4 and 5 in turn for those of
-/// encrypted memory, and slot 6 for oblivious arrays. The only error is want of memory.
+/// encrypted memory, and slot 6 for oblivious arrays. The only error is running out of memory.
 pub fn slots(alloc: Global, places: &Places) -> Result<SlotPlan, Memory>
     ensures slots { IfOk result (λ plan. plan.of_var.items ≡ slots_of places.now.of_var.items) }
 {

@@ -75,7 +75,7 @@ impl Tokens<'_> {
         None
     }
 
-    /// The name of the declaration of a number, and how many tokens there are where there is no such declaration.
+    /// The name of the declaration of a number, and how many tokens there are if there is no such declaration.
     pub(crate) fn declared_name(&self, number: u64) -> usize {
         match self.declaration(number) {
             Some(declared) => declared.name,
@@ -180,8 +180,8 @@ impl Tokens<'_> {
         self.all.len()
     }
 
-    /// The name of the procedure of a number, from 0, or of the call of a number; and how many tokens there are where there
-    /// is none.
+    /// The name of the procedure of a number, from 0, or of the call of a number; and how many tokens there are if
+    /// there is none.
     pub(crate) fn named(&self, number: u32, is_procedure: bool) -> usize {
         let mut left = number;
         for at in 0..self.all.len() {

@@ -42,7 +42,7 @@ impl<'a> Tokens<'a> {
         }
     }
 
-    /// The text of a token, and nothing where there is no such token.
+    /// The text of a token, and nothing if there is no such token.
     pub(crate) fn word(&self, at: usize) -> &'a [u8] {
         match self.all.get(at) {
             Some(token) => piece(self.text, token.start as usize, token.len as usize),
@@ -55,7 +55,7 @@ impl<'a> Tokens<'a> {
         self.word(at) == word.as_bytes()
     }
 
-    /// The text of the token before, and nothing where there is none.
+    /// The text of the token before, and nothing if there is none.
     pub(crate) fn before(&self, at: usize) -> &'a [u8] {
         match at.checked_sub(1) {
             Some(before) => self.word(before),
@@ -63,7 +63,7 @@ impl<'a> Tokens<'a> {
         }
     }
 
-    /// The byte at which a token starts, and the end of the text where there is no such token.
+    /// The byte at which a token starts, and the end of the text if there is no such token.
     pub(crate) fn start(&self, at: usize) -> usize {
         match self.all.get(at) {
             Some(token) => token.start as usize,

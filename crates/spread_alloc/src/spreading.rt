@@ -48,7 +48,7 @@ fn is_free(slots: &PinnedPlan, variable: usize, slot: u8) -> bool
     !is_pinned(&slots.pins, slot) && !serves_other(slots.plan.of_var.as_slice(), variable, slot)
 }
 
-// The slots that may hold blocks of a variable. The only error is want of memory.
+// The slots that may hold blocks of a variable. The only error is running out of memory.
 fn free_slots(alloc: Global, slots: &PinnedPlan, variable: usize) -> Result<Vec<u8>, Memory>
     requires { variable < length slots.now.plan.of_var.items }
     ensures { IfOk result (λ free. free.items ≡ free_slots slots.now.pins slots.now.plan.of_var.items variable) }
@@ -163,7 +163,7 @@ fn is_candidate(size: u32, oblivious: bool, place: Place, pinned: bool) -> bool
     may_move(oblivious, place) && is_long(size, place) && !pinned
 }
 
-// Spreads a variable if it may be, and has room. The only error is want of memory.
+// Spreads a variable if it may be, and has room. The only error is running out of memory.
 fn spread_one(
     alloc: Global,
     size: u32,
@@ -194,7 +194,7 @@ fn spread_one(
 }
 
 // Spreads each array of the oblivious banks, or of encrypted memory, that may be spread and has room, in order of
-// declaration. The only error is want of memory.
+// declaration. The only error is running out of memory.
 fn spread_turn(
     alloc: Global,
     size: u32,
@@ -223,10 +223,10 @@ fn last_bank(places: &[Place]) -> u8
     last
 }
 
-/// Keeps secret arrays of two to five blocks in the scratchpad for the whole run, where a block has 2^w words: those that
-/// no slot holds yet, as long as there are free slots. Arrays of oblivious banks come first, and move to the end of
-/// encrypted memory. Oblivious banks after the last one that is still in use are dropped. The only error is want of
-/// memory.
+/// Keeps secret arrays of two to five blocks in the scratchpad for the whole run, where a block has 2^w words: those
+/// that no slot holds yet, as long as there are free slots. Arrays of oblivious banks come first, and move to the end
+/// of encrypted memory. Oblivious banks after the last one that is still in use are dropped. The only error is running
+/// out of memory.
 pub fn spread(
     alloc: Global,
     w: u8,

@@ -42,7 +42,7 @@ begins_with_token : (text : List ℕ) (end n : ℕ) (k : Kind) → Allows end (d
 begins_with_token text end n k a =
     record { splits = λ r t. a.2 r (subst (λ z. Splits (end + n) z r) (sym (drop-drop n end text)) t) }
 
--- one more token, where there is room for it
+-- one more token, if there is room for it
 pub few_enough : (tokens : List Token) (t : Token) {most : ℕ} → length tokens < most → length (tokens ++ t ∷ []) ≤ most
 few_enough tokens t room = let more = length-append tokens (t ∷ []) in omega arith
 

@@ -29,6 +29,7 @@ sign_found at b rest Slashes = Skipped (2 + prefix_len is_in_line (drop 1 rest))
 sign_found at b rest Apart = single_found at (sign_of b)
 
 -- the first piece of a text that isn't empty
+-- Rule: source/byte.
 abbrev pub found_in : ℕ → List ℕ → Found
 found_in at text =
     if is_white (slice_index text 0) then Skipped 1

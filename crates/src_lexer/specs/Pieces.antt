@@ -23,6 +23,7 @@ pub data LetterRun : Type 0 where
   Mixed : (digits : ℕ) → LetterRun
 
 -- a run that starts with a digit: it consists of digits, which may begin with zeros, and its value is at most 2^63 - 1
+-- Rule: source/number.
 unfoldable pub number_run : List ℕ → LetterRun
 number_run run =
     if nat_lt (2 ^ 63 - 1) (digits_value 10 (take (prefix_len is_ascii_digit run) run)) then Big
@@ -31,6 +32,7 @@ number_run run =
     else Mixed (prefix_len is_ascii_digit run))
 
 -- any other run: a keyword, or a name of at most 32 bytes
+-- Rule: source/name.
 unfoldable pub word_run : List ℕ → LetterRun
 word_run run =
     if bytes_eq run (codes "public") then Is kind.Public

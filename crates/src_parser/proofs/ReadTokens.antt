@@ -175,7 +175,7 @@ unfinished most opened used ks x tree e none is =
     last (Stops y) n f = absurd (cc)
     last Deep n f = absurd (cc)
 
--- a reading ends alike at each token with which it doesn't continue
+-- a reading has the same result at each token with which it doesn't continue
 having_alike : (most : Limits) (stack : List Waiting) (depth used : ℕ) (tree : Tree) (k : Kind) (o : Option Op)
     (y : Reading) → having most stack depth used tree k o ≡ Stops y
     → having most stack depth used tree kind.Semi None ≡ Stops y

@@ -20,6 +20,7 @@ pub record Limits : Type 0 where
   pub operators : ℕ
 
 -- the limits of the language
+-- Rules: source/brackets, source/braces, source/operators.
 abbrev pub limits : Limits
 limits = record { brackets = 32; braces = 32; operators = 256 }
 
@@ -38,6 +39,7 @@ operator_of kind.Shr = Some Shr
 operator_of _ = None
 
 -- how tightly an operator binds its operands, 5 the most; 6 is the level of an operand without operators
+-- Rule: meaning/grouping.
 abbrev pub level_of : Op → ℕ
 level_of Or = 0
 level_of Xor = 1

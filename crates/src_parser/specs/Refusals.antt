@@ -28,6 +28,7 @@ pub record ProgramBegins (most : Limits) (tokens : List Kind) : Type 0 where
       (tokens ++ more) program
 
 -- the tokens before this one begin a program; together with it they begin none, for any limits of nesting
+-- Rule: source/unexpected.
 pub record Unexpected (tokens : List Token) (at : ℕ) : Type 0 where
   pub before : List Token
   pub token : Token
@@ -39,6 +40,7 @@ pub record Unexpected (tokens : List Token) (at : ℕ) : Type 0 where
 
 -- the tokens before this one begin a program; together with it they begin none within the limits, but they do within
 -- some other limits
+-- Rule: source/deep.
 pub record TooDeep (tokens : List Token) (at : ℕ) : Type 0 where
   pub before : List Token
   pub token : Token
@@ -51,6 +53,7 @@ pub record TooDeep (tokens : List Token) (at : ℕ) : Type 0 where
   pub begins_wider : ProgramBegins wider (token_kinds before ++ token.kind ∷ [])
 
 -- the tokens begin a program and aren't one
+-- Rule: source/end.
 pub record CutShort (tokens : List Token) : Type 0 where
   pub begins : ProgramBegins limits (token_kinds tokens)
   pub none : (program : Source) → Sentence limits (token_kinds tokens) program → ⊥

@@ -25,7 +25,7 @@ pub record HasTokens (Is : List Token → Type 0) (text : List ℕ) : Type 0 whe
   pub is : Is tokens
 
 -- Why a text isn't what its tokens are read as: the first error of its pieces; or it splits into tokens, and this error
--- is true of them. Want of memory says nothing about the text.
+-- is true of them. Running out of memory says nothing about the text.
 abbrev pub ExplainsTextBy : (ParseError → List Token → Type 0) → TextError → List ℕ → Type 0
 ExplainsTextBy Explains (error.Pieces e) text = (e ≡ piece.Memory) ⊎ Splits 0 text (Err e)
 ExplainsTextBy Explains (error.Tokens e) text = (e ≡ token.Memory) ⊎ HasTokens (Explains e) text

@@ -6,6 +6,7 @@ use gr_word::Name;
 use src_tree::{Expr, Guard, Stmt};
 
 /// A language whose statements are assignments, choices and loops, and possibly others, which its own parser reads.
+/// why: implemented by a type without fields, since a crate can't implement a trait of one crate for a type of another.
 pub trait Language {
     /// A statement.
     type Stmt: Drop;

@@ -139,7 +139,7 @@ kept_alike needed caller all (p ∷ ps) i b c h =
           (subst (λ (x : Binding). Alike needed x c) (sym (none_left needed caller all (p ∷ ps) i b past)) h)
     ]
 
--- a call, by what waits and what is held when it begins
+-- the expansion of a call, by the statements that are pending and the state when it begins
 pub called_so : (name : List ℕ) (arguments : List Tree) (scope : Scope) (x y : Held) (f : Found)
     (waiting next : List Pending) (body : LiveBody) → found scope.callable name ≡ Some f
     → IsPruned f.earlier f.procedure body

@@ -54,6 +54,7 @@ abbrev mutual
   names_in_block (Then s rest) = names_in_statement s ++ names_in_block rest
 
 -- a procedure has the name of an earlier one, or two of its parameters and locals have one name
+-- Rule: procs/twice.
 pub data IsNamedAgain (before : List Procedure) (p : Procedure) : Type 0 where
   AsEarlier : Contains (map (λ (q : Procedure). q.name) before) p.name → IsNamedAgain before p
   OwnTwice : (front : List (List ℕ)) (x : List ℕ) (back : List (List ℕ)) → own_names p ≡ front ++ x ∷ back
@@ -61,6 +62,7 @@ pub data IsNamedAgain (before : List Procedure) (p : Procedure) : Type 0 where
 
 -- The fault of a procedure: a name that is declared again; otherwise a variable in its statements that isn't its own.
 -- The fault has the procedure's number.
+-- Rule: procs/undeclared.
 pub data ProcedureFault (before : List Procedure) (p : Procedure) : InlineError → Type 0 where
   RepeatsName : IsNamedAgain before p → ProcedureFault before p (TwiceNamed (shown_place (length before)))
   UsesOther : (IsNamedAgain before p → ⊥) → (x : List ℕ) → Contains (names_in_block p.body) x
@@ -96,6 +98,7 @@ Calls c p = Contains c.declared p × (p.name ≡ c.name)
 
 -- The fault of a call: no procedure of its name; otherwise another number of arguments than of parameters; otherwise
 -- an argument for an array that isn't a bare name. The fault has the call's number.
+-- Rules: procs/unknown, procs/count, procs/array.
 pub data CallFault (before : List FoundCall) (c : FoundCall) : InlineError → Type 0 where
   CallsNone : ((p : Procedure) → Calls c p → ⊥) → CallFault before c (NoProcedure (shown_place (length before)))
   CountDiffers : (p : Procedure) → Calls c p → (length c.arguments ≡ length p.parameters → ⊥)
@@ -105,6 +108,7 @@ pub data CallFault (before : List FoundCall) (c : FoundCall) : InlineError → T
       → CallFault before c (NotAnArray (shown_place (length before)))
 
 -- the most statements of a program without calls
+-- Rule: procs/large.
 abbrev pub max_statements : ℕ
 max_statements = 8192
 
@@ -117,7 +121,7 @@ pub data IsFirstCallFault (f : File) : InlineError → Type 0 where
   TooMany : HaveNone ProcedureFault f.procedures → HaveNone CallFault (calls_after [] f.procedures f.body)
       → max_statements < statements_in (inlined_file f).body → IsFirstCallFault f TooLarge
 
--- it is the file's first fault; want of memory says nothing
+-- it is the file's first fault; running out of memory says nothing about it
 abbrev pub ExplainsInlining : InlineError → File → Type 0
 ExplainsInlining Memory f = Unit {0}
 ExplainsInlining e f = IsFirstCallFault f e

@@ -21,6 +21,7 @@ abbrev pub declared_names : List Decl → Names
 declared_names [] name = None
 declared_names (d ∷ ds) name = if bytes_eq name d.name then Some 0 else option_map (λ k. 1 + k) (declared_names ds name)
 
+-- why: so a file's meaning is defined for every tree; `inline` rejects such a file.
 abbrev pub scalar_of : Store → Option ℕ → ℤ
 scalar_of store None = pos 0
 scalar_of store (Some k) = scalar store k
@@ -92,7 +93,7 @@ calls_of (p ∷ earlier) name caller arguments before =
     if bytes_eq name p.name then called (calls_of earlier) p caller arguments before
     else calls_of earlier name caller arguments before
 
--- what the file's own variables hold at its end, none where it is spent
+-- what the file's own variables hold at its end, none if it is spent
 abbrev pub call_meaning : File → Store → ℕ → Option Store
 call_meaning f store turns =
     option_map (λ left. left.store)

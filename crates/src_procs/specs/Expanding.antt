@@ -132,7 +132,7 @@ finished (Open ∷ more) x = finished more (opened x)
 finished (EndChoice t ∷ more) x = finished more (end_choice t x)
 finished (EndLoop t ∷ more) x = finished more (end_loop t x)
 
--- a call of a name begins, where there is one
+-- a call of a name begins, if there is one
 abbrev pub begun_where : Option Found → Renaming → List Tree → Held → Held
 begun_where None caller arguments x = x
 begun_where (Some f) caller arguments x = begun f.procedure f.earlier caller arguments x

@@ -148,7 +148,7 @@ inline_fault f =
     (option_or (calls_fault f)
     (fault_where (nat_lt max_statements (statements_in (inlined_file f).body)) TooLarge))
 
--- it is the file's first fault, as it is computed; want of memory says nothing
+-- it is the file's first fault, as it is computed; running out of memory says nothing about it
 abbrev pub IsFoundFault : InlineError → File → Type 0
 IsFoundFault Memory f = Unit {0}
 IsFoundFault e f = inline_fault f ≡ Some e

@@ -111,7 +111,8 @@ fn all_handed<'a>(
     Ok(Some(all))
 }
 
-// The arguments of a procedure's call for a call of that procedure with these, where they are bare names of the caller.
+// The arguments of a procedure's own call, with its parameters replaced by these arguments. `None` if they aren't bare
+// names.
 fn handed_arguments<'a>(
     alloc: Global,
     params: &'a [Param],
@@ -134,7 +135,7 @@ struct OneCall<'c, 'a> {
     arguments: &'c [&'a Expr],
 }
 
-// The call that statements are, where they are one call.
+// The call, if the statements are a single call.
 fn one_call<'c, 'a>(statements: &'c [Live<'a>]) -> Option<OneCall<'c, 'a>>
     ensures { IfSome result (λ c. live_block statements.now
         ≡ Then (Call c.name.now (trees_seen c.arguments.now)) Nothing) }
@@ -217,7 +218,7 @@ fn passed_on<'a>(
     }
 }
 
-// The call that some statements come down to, where they are one call.
+// The call that can replace some statements, if they are a single call.
 fn passed_down<'a>(
     alloc: Global,
     procs: &'a [Proc],
@@ -256,7 +257,7 @@ fn one_statement<'a>(alloc: Global, live: Live<'a>) -> Result<Vec<Live<'a>>, Mem
     Ok(block)
 }
 
-// Statements, or where they are one call what that comes down to.
+// The statements; or, if they are a single call, the call that can replace it.
 #[tactic(auto, using(crate::proofs::HandedOn::one_code))]
 pub(crate) fn come_down<'a>(
     alloc: Global,

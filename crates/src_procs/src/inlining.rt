@@ -96,7 +96,7 @@ fn begun(alloc: Global, procs: &[Proc]) -> Result<Made, Memory>
     })
 }
 
-// What is made of a file's own statements, where it is known what is left of its procedures.
+// What is made of a file's own statements, if it is known what is left of its procedures.
 fn expanded_with<'b, 'a>(
     alloc: Global,
     file: Procedures<'b, 'a>,

@@ -290,7 +290,7 @@ fn step<'b, 'a>(
     }
 }
 
-// What comes of a file's own statements.
+// Expands a file's own statements.
 pub(crate) fn expand_own<'b, 'a>(
     alloc: Global,
     file: Procedures<'b, 'a>,

@@ -251,7 +251,7 @@ fn first_of<'b, 'a>(
     statement(alloc, file, waiting, s, scope, held)
 }
 
-// Takes the innermost scope out of what is held, where there is one.
+// Removes the innermost scope and returns it, if there is one.
 fn innermost<'a>(procs: &'a [Proc], held: &mut Held<'a>) -> Option<Scope<'a>>
     ensures found { IfSome result (λ scope. with_scope (scope_of procs.now scope) (held_of procs.now held.new)
         ≡ held_of procs.now held.old) }
@@ -309,7 +309,7 @@ fn step<'b, 'a>(
     }
 }
 
-// What comes of all that waits.
+// Expands all pending statements.
 pub(crate) fn expand<'b, 'a>(
     alloc: Global,
     file: Procedures<'b, 'a>,

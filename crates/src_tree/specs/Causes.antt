@@ -28,14 +28,17 @@ pub record IsFirstDeclaration (Faulty : List Decl → Decl → Type 0) (decls : 
   pub none_before : EachAfter (λ earlier d. Faulty earlier d → ⊥) [] before
 
 -- a declaration has the name of an earlier one
+-- Rule: source/twice.
 abbrev pub IsNamedAgain : List Decl → Decl → Type 0
 IsNamedAgain before d = (kind : Label × Shape) × (context_of before d.name ≡ Some kind)
 
 -- an array has no words, or too many
+-- Rule: source/limit-length.
 abbrev pub HasBadLength : List Decl → Decl → Type 0
 HasBadLength before d = LengthFits d.length → ⊥
 
 -- the variables up to a declaration have too many words
+-- Rule: source/limit-words.
 abbrev pub PassesWords : List Decl → Decl → Type 0
 PassesWords before d = max_words < total_words before + words_of d
 

@@ -48,6 +48,7 @@ same_shape Array Scalar = false
 same_shape Array Array = true
 
 -- the error of a name in statement n that should be declared with this shape
+-- Rule: source/shape.
 abbrev pub kind_fault : ℕ → Shape → Option (Label × Shape) → Option TypeError
 kind_fault n shape None = Some (Undeclared (shown_place n))
 kind_fault n shape (Some kind) = where_true (not (same_shape kind.1 shape)) (WrongShape (shown_place n))
@@ -56,6 +57,7 @@ abbrev pub use_fault : Context → ℕ → Shape → List ℕ → Option TypeErr
 use_fault known n shape name = kind_fault n shape (known name)
 
 -- the first error of the names of an expression, in the order of the text
+-- Rule: source/undeclared.
 abbrev pub names_fault : Context → ℕ → Tree → Option TypeError
 names_fault known n (Number z) = None
 names_fault known n (Variable x) = use_fault known n Scalar x
@@ -67,6 +69,7 @@ abbrev pub leaks : Label → Label → Bool
 leaks from to = secret_label from && not (secret_label to)
 
 -- a public array has a secret index, somewhere in an expression
+-- Rule: source/index.
 abbrev pub has_leaking_index : Context → Tree → Bool
 has_leaking_index known (Number z) = false
 has_leaking_index known (Variable x) = false
@@ -76,17 +79,20 @@ has_leaking_index known (Operation op a b) = has_leaking_index known a || has_le
 -- In an assignment, a secret index of a public array comes first, then a flow to a public variable. In a guard, its
 -- names come first, in the order of the text, then a secret index of a public array. In a loop, a secret guard comes
 -- first, then that the loop is in secret code.
+-- Rule: source/flow.
 abbrev pub flow_fault : ℕ → Bool → Label → Label → Option TypeError
 flow_fault n indexes value target =
     where_true indexes (SecretIndexOfPublic (shown_place n)) or_else where_true (leaks value target)
     (FlowToPublic (shown_place n))
 
+-- Rule: source/guard.
 abbrev pub guard_fault : Context → ℕ → Test → Option TypeError
 guard_fault known n t =
     (names_fault known n t.left or_else names_fault known n t.right)
     or_else where_true (has_leaking_index known t.left
     || has_leaking_index known t.right) (SecretIndexOfPublic (shown_place n))
 
+-- Rule: source/loop.
 abbrev pub loop_fault : ℕ → Label → Label → Option TypeError
 loop_fault n guard code =
     where_true (secret_label guard) (SecretGuardOfLoop (shown_place n)) or_else where_true (secret_label code)

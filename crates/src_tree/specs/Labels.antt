@@ -17,6 +17,7 @@ label_or_public None = Public
 label_or_public (Some kind) = kind.0
 
 -- the label of a name, or public if it isn't declared
+-- why: so labels and weights are defined for every tree; typing rejects such a program.
 abbrev pub label_at : Context → List ℕ → Label
 label_at known name = label_or_public (known name)
 

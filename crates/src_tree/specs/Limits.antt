@@ -10,6 +10,7 @@ use Rattle.src_tree.specs.Trees.{Tree, Number, Variable, Element, Operation, Tes
 use Rattle.src_tree.specs.Contexts.{Context, context_of}
 use Rattle.src_tree.specs.Labels.{inside}
 
+-- Rule: source/limit-variables.
 abbrev pub max_variables : ℕ
 max_variables = 256
 
@@ -19,6 +20,7 @@ max_length = 1048576
 abbrev pub max_words : ℕ
 max_words = 4194304
 
+-- Rule: source/limit-height.
 abbrev pub max_height : ℕ
 max_height = 16
 
@@ -72,6 +74,7 @@ abbrev mutual
   block_weight known code Nothing = 0
   block_weight known code (Then s rest) = statement_weight known code s + block_weight known code rest
 
+-- Rule: source/limit-weight.
 abbrev pub weight_of : Source → ℕ
 weight_of p = block_weight (context_of p.decls) Public p.body
 

@@ -23,6 +23,7 @@ abbrev pub words_of_number : Store → ℕ → List ℤ
 words_of_number store k = slice_index_or store k []
 
 -- an index is an unsigned number, modulo the number of words
+-- Rule: meaning/index.
 abbrev pub wrapped : List ℤ → ℤ → ℕ
 wrapped words index = unsigned_of index % length words
 

@@ -1,5 +1,5 @@
-//! The code of steps that replace an operation by a number: what a run through it leaves, how the check passes it in
-//! public code, and how the check walks it in an arm.
+//! The code of steps that replace an operation with a constant: what a run through it leaves, how the check passes it
+//! in public code, and how the check walks it in an arm.
 //!
 //! Here are only definitions and laws (proofs/).
 #![tactic(auto)]

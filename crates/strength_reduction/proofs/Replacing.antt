@@ -1,4 +1,4 @@
--- The steps that replace an operation by a number do what it does.
+-- The steps that replace an operation with a constant do what it does.
 use Rattle.std.proofs.Common.{◌≡◌, ℕ, ◌+◌, ◌^◌, ◌≤◌, Bool, true, false, ◌&&◌, cond, eqb, leb, ℤ, pos, negsuc, List, [], ◌∷◌, length, option_map, Some, None, refl, sym, ap, subst, arith, pow_mono}
 use Rattle.std.proofs.lemmas.Bool.{eqb-true, lt-ltb, ltb-true}
 use Rattle.std.proofs.lemmas.Bool.Decides.{nat_tests}

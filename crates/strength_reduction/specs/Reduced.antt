@@ -1,5 +1,5 @@
--- The steps that replace an operation by a number: a product by a number of few bits, and quotients and remainders by
--- powers of two. (This project's own choice.)
+-- The steps that replace an operation with a constant: a product by a number of few bits, and quotients and remainders
+-- by powers of two. (This project's own choice.)
 use Rattle.std.specs.Prelude.{ℕ, ◌-◌, ◌^◌, Bool, ◌==◌, nat_le, nat_lt, if◌then◌else◌, ℤ, pos, negsuc, List, [], ◌∷◌, ◌++◌, length, Option, Some, None}
 use Rattle.std.specs.Option.{option_map}
 use Rattle.std.specs.List.{filter, range_with_len}
@@ -88,6 +88,6 @@ abbrev pub is_word : ℤ → Bool
 is_word (pos n) = nat_lt n (2 ^ 63)
 is_word (negsuc n) = nat_lt n (2 ^ 63)
 
--- the steps that replace an operation by a number, if there are any; none replace it if the number isn't a word
+-- the steps that replace an operation with a constant, if there are any; none replace it if the number isn't a word
 unfoldable pub steps_by_number : Op → ℤ → Option (List Step)
 steps_by_number op number = if is_word number then steps_by_bits op (set_bits number) else None

@@ -56,7 +56,7 @@ abbrev pub IsQuick : Step → Type 0
 IsQuick (Constant to value) = Unit {0}
 IsQuick (Compute op to left right) = (profile : Profile) → operation_cost profile op ≡ profile.alu
 
--- Steps that do what an operation by a number does, without a product, a quotient or a remainder. The result may be
+-- Steps that do what an operation with a constant does, without a product, a quotient or a remainder. The result may be
 -- secret exactly if the value may be, even if the result is the same for every value.
 pub record Replaces (op : Op) (number : ℤ) (steps : List Step) : Type 0 where
   pub result : (words : ℕ → ℤ) → IsWord (words 0) → words_after steps words 0 ≡ applied op (words 0) number

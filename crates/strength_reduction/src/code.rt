@@ -14,7 +14,8 @@ use std::alloc::Global;
 const MOST_BITS: usize = 8;
 
 /// The code that replaces an operation on the value in register `to` by a number, and leaves the result there. It also
-/// uses the two registers that follow. `None` if no steps replace the operation. The only error is want of memory.
+/// uses the two registers that follow. `None` if no steps replace the operation. The only error is running out of
+/// memory.
 pub fn code_by_number(
     alloc: Global,
     op: Op,

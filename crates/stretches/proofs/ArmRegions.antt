@@ -1,6 +1,6 @@
--- A branch on a secret is crossed if both ways through it show the same. Arms that show the same make such ways if the
--- first begins with as many cycles as a taken branch costs more than one that isn't taken, and the second ends with the
--- cycles of the jump.
+-- A branch on a secret is crossed if both paths through it show the same events. Arms that show the same events make
+-- such ways if the first begins with as many cycles as a taken branch costs more than one that isn't taken, and the
+-- second ends with the cycles of the jump.
 use Rattle.std.proofs.Common.{◌≡◌, ℕ, zero, suc, ◌+◌, ◌-◌, ◌<◌, ◌≤◌, pos, false, List, [], ◌∷◌, ◌++◌, length, replicate, Some, refl, sym, ap, ◌∙◌, subst, arith, length-append}
 use Rattle.std.specs.Prelude.{slice_get}
 use Rattle.std.proofs.lemmas.List.{append-nil}
@@ -67,7 +67,7 @@ module _ (o : Parts) (some : 1 ≤ o.profile.taken) where
       (pattern_of-append shows (paused taken) ∙ ap (joined (pattern_of shows)) (pattern_of-pause taken)
       ∙ sym (pattern_of-append shows (Gap taken ∷ [])))
 
--- a region whose ways show the same
+-- a region whose ways show the same events
 module _ (o : Parts) (depth : ℕ) (around : depth < most_regions) (s : SymState) (cmp : Cmp) (ra rb : ℕ)
     (first second : List Instr) (xs ys shows : List Show) (left right : SymState)
     (one : Walked o (depth + 1) s first xs left) (other : Walked o (depth + 1) s second ys right)

@@ -18,6 +18,7 @@ abbrev pub pattern_of : List Show → Shown TreeEvent
 pattern_of [] = no_events
 pattern_of (x ∷ shows) = joined (pattern_of_one x) (pattern_of shows)
 
--- a region of two arms that show the same: the cycles of its branch, what an arm shows, and the cycles of its jump
+-- a region of two arms that show the same events: the cycles of its branch, what an arm shows, and the cycles of its
+-- jump
 abbrev pub region_shows : (taken : ℕ) → List Show → List Show
 region_shows taken shows = Gap taken ∷ (shows ++ Gap taken ∷ [])

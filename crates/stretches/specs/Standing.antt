@@ -9,6 +9,7 @@ pub record StandsAt (o : Parts) (place : ℕ) (code : List Instr) : Type 0 where
   pub each : (k : ℕ) (i : Instr) → slice_get code k ≡ Some i → slice_get o.code (place + k) ≡ Some i
 
 -- the sum of the greatest costs of some instructions
+-- why: here, below the crates that generate code, since these costs bound each stretch of code.
 abbrev pub greatest_costs : Parts → List Instr → ℕ
 greatest_costs o [] = 0
 greatest_costs o (i ∷ code) = greatest_cost o i + greatest_costs o code

@@ -71,7 +71,7 @@ impl Values {
     }
 
     /// The number of the tree of a node. If the table doesn't have the node, it is added. Earlier numbers keep their
-    /// trees. Out of memory leaves the table as it was.
+    /// trees. Running out of memory leaves the table as it was.
     #[inline(always)]
     pub fn add(&mut self, node: Node) -> Result<u32, Memory>
         requires names { NamesBelow (length self.old) node }

@@ -20,10 +20,12 @@ abbrev pub is_secret_label : Label → Bool
 is_secret_label Public = false
 is_secret_label Secret = true
 
+-- Rule: check/secret-variable.
 abbrev pub has_secret_in_ram : Parts → Bool
 has_secret_in_ram o = list_any (λ s. is_ram s.bank && is_secret_label s.label) o.symbols
 
 -- the region of a branch is crossed
+-- Rule: known/secret-branch.
 abbrev pub RegionIsCrossed : Parts → ℕ → ℤ → Known → Type 0
 RegionIsCrossed o p offset known =
     (pattern : Shown TreeEvent) × (join : ℕ) × (state : SymState) × CrossesFrom o p offset known pattern join state
@@ -31,6 +33,7 @@ RegionIsCrossed o p offset known =
 -- No secret variable is in plain memory. Each place of the code is visited, or is inside a region that is crossed. What
 -- reaches a place fits its note. No visited place is refused, the last place doesn't fall through, and each region that
 -- opens at a visited place is crossed.
+-- Rule: known/end.
 pub record Accepts (o : Parts) : Type 0 where
   pub symbols : has_secret_in_ram o ≡ false
   pub covered : (p : ℕ) → p < length o.code → IsVisited o p ⊎ LiesInside o p
@@ -45,6 +48,7 @@ pub record Accepts (o : Parts) : Type 0 where
 -- The refusal that place p of public code causes: p is neither visited nor inside a region; or what reaches it doesn't
 -- fit its note; or its instruction is refused; or it is the last and falls through; or a place of the region that it
 -- opens is refused. A note that doesn't fit comes before the instruction.
+-- Rule: check/code-end.
 pub data RefusedAt (o : Parts) : (p place : ℕ) → Reason → Type 0 where
   Missed : (p : ℕ) → ¬ IsVisited o p → ¬ LiesInside o p → RefusedAt o p p NoNote
   Unfit : (p : ℕ) (known claimed : Known)

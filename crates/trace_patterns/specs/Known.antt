@@ -27,6 +27,7 @@ abbrev pub set_bank : Known → ℕ → ℕ → Known
 set_bank k slot bank = record k { banks = slice_set k.banks slot (Some bank) }
 
 -- at the start every register is 0, which is public, and no slot is bound
+-- Rule: known/start.
 unfoldable pub start_known : Known
 start_known = record { secret = replicate 32 false; banks = replicate 8 None }
 
@@ -70,5 +71,6 @@ registers_fit count k claimed = list_all (register_fits k claimed) (range_with_l
 unfoldable pub slots_fit : ℕ → Known → Known → Bool
 slots_fit count k claimed = list_all (slot_fits k claimed) (range_with_len 0 count)
 
+-- Rules: known/note, check/note-claim.
 abbrev pub fits : Known → Known → Bool
 fits k claimed = registers_fit 32 k claimed && slots_fit 8 k claimed

@@ -36,20 +36,25 @@ refused_if true reason next = Refused reason
 refused_if false reason next = next
 
 -- the ruling on a slot whose bank must be known
+-- Rule: check/slot-bank.
 abbrev pub at_bank : Option ℕ → (ℕ → Ruling) → Ruling
 at_bank None go = Refused UnboundSlot
 at_bank (Some bank) go = go bank
 
 -- a jump leads to a place of the code that has a note, and what is known fits that note
+-- Rule: check/note-at-target.
 abbrev pub at_claim : Option Known → Known → Ruling → Ruling
 at_claim None k next = Refused NoNote
 at_claim (Some claimed) k next = refused_if (not (fits k claimed)) NoteTooLow next
 
+-- Rules: known/jump, check/target.
 abbrev pub jumped : Parts → ℕ → Known → Ruling → Ruling
 jumped o target k next =
     refused_if (not (nat_lt target (length o.code))) JumpOutside (at_claim (claimed_at o target) k next)
 
 -- the ruling on instruction i at place p, if k is known there
+-- Rules: known/nop, known/halt, known/li, known/alu, known/ldb, known/stb, known/idb, known/ldw, known/stw,
+-- check/block-number, check/plain-store.
 unfoldable pub ruling_of : Parts → ℕ → Known → Instr → Ruling
 ruling_of o p k Nop = Falls k
 ruling_of o p k Halt = Leaves

@@ -51,6 +51,7 @@ has_note_between o low high = list_any (λ n. nat_lt low n.pc && nat_lt n.pc hig
 
 -- The tests of the region of a branch at p with an offset to t. `before` is the instruction before t, which must jump
 -- to the join; `depth` is the number of regions around this one, and the join is at `end` at the latest.
+-- Rule: check/region-shape.
 abbrev pub shape_tests : Parts → (depth end p : ℕ) → ℤ → (t : ℕ) → Option Instr → (join : ℕ) → List (Bool × ℕ × Reason)
 shape_tests o depth end p offset t before join =
     (nat_le most_regions depth, p, BadRegion)

@@ -45,6 +45,7 @@ word_tree (Entry slot) block place = SlotWord slot place
 word_tree Loaded block place = MemWord block place
 
 -- the tree of an operation, if both operands have one
+-- Rule: arm/operation.
 abbrev pub applied_trees : Op → Option Value → Option Value → Option Value
 applied_trees op (Some a) (Some b) = Some (Apply op a b)
 applied_trees op _ _ = None
@@ -63,6 +64,7 @@ loads o s k bank r =
     else Goes (event (Oram bank)) (hold_slot s k (OramSlot bank)))
 
 -- a block is stored, but not in plain memory
+-- Rule: check/arm-plain-write.
 abbrev pub stores : SymState → SymSlot → Single
 stores s AnySlot = Refuses UnboundSlot
 stores s (RamSlot block origin) = Refuses RamStoreInSecret
@@ -70,6 +72,7 @@ stores s (EramSlot block) = Goes (event (EncWrite block)) s
 stores s (OramSlot bank) = Goes (event (Oram bank)) s
 
 -- the tree of the number of a slot's block
+-- Rule: arm/idb.
 abbrev pub block_held : SymSlot → Option Value
 block_held AnySlot = None
 block_held (RamSlot block origin) = Some block
@@ -77,6 +80,7 @@ block_held (EramSlot block) = Some block
 block_held (OramSlot bank) = None
 
 -- the tree of a slot's word, if the slot is bound to plain memory and the word's place is known
+-- Rules: arm/ldw-plain, arm/ldw.
 abbrev pub word_held : Parts → SymSlot → Option Value → Option Value
 word_held o (RamSlot block origin) (Some t) = Some (word_tree origin block (named_word o t))
 word_held o _ _ = None
@@ -93,12 +97,14 @@ if_stored (EramSlot block) go = go
 if_stored (OramSlot bank) go = go
 
 -- a jump in an arm is refused; a jump that doesn't lead forward is refused as a loop
+-- Rule: check/arm-jump.
 abbrev pub jump_refused : ℤ → Reason
 jump_refused (pos zero) = SecretLoop
 jump_refused (pos (suc n)) = BadRegion
 jump_refused (negsuc n) = SecretLoop
 
 -- the result of an instruction, if s is known before it
+-- Rules: arm/li, check/arm-halt.
 unfoldable pub single : Parts → SymState → Instr → Single
 single o s Nop = quietly o Nop s
 single o s Halt = Refuses HaltInSecret

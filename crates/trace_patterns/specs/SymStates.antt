@@ -76,10 +76,12 @@ same_origin (Entry j) (Entry k) = j == k
 same_origin Loaded Loaded = true
 same_origin _ _ = false
 
+-- Rule: join/register.
 abbrev pub common_tree : Option Value → Option Value → Option Value
 common_tree (Some t) (Some u) = if same_tree t u then Some t else None
 common_tree _ _ = None
 
+-- Rule: join/slot.
 abbrev pub common_slot : SymSlot → SymSlot → SymSlot
 common_slot (RamSlot block origin) (RamSlot other origin') =
     if same_tree block other && same_origin origin origin' then RamSlot block origin else AnySlot

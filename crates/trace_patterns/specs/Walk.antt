@@ -1,4 +1,4 @@
--- The walk of an arm, and the outcome of a region: both arms are walked from one state, and must show the same.
+-- The walk of an arm, and the outcome of a region: both arms are walked from one state, and must show the same events.
 -- (GhostRider, ASPLOS 2015: the rule for secret conditionals of L_T; that trees are compared as they are written, and
 -- the order of refusals, are this project's profile.)
 use Rattle.std.specs.Prelude.{◌≡◌, ℕ, ◌+◌, ◌-◌, ◌<◌, ℤ, slice_get, Some}
@@ -37,8 +37,9 @@ mutual
         → CrossesTo o depth end p offset s pattern join t → WalksTo o depth end join t rest u
         → WalksTo o depth end p s (joined pattern rest) u
 
-  -- The region of a branch at p with an offset is crossed to its join: both arms are walked from one state, both ways
-  -- show the same, and what both arms leave alike is known at the join.
+-- The region of a branch at p with an offset is crossed to its join: both arms are walked from one state, both paths
+  -- show the same events, and what both arms leave alike is known at the join.
+  -- Rule: check/equal-arms.
   pub data CrossesTo (o : Parts) : (depth end p : ℕ) → ℤ → SymState → Shown TreeEvent → ℕ → SymState → Type 0 where
     BothArms : (depth end p : ℕ) (offset : ℤ) (s : SymState) (second join : ℕ) (one : Shown TreeEvent) (left : SymState)
         (other : Shown TreeEvent) (right : SymState)

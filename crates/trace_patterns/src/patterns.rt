@@ -43,7 +43,8 @@ impl Pattern {
         self.last += cycles as u64;
     }
 
-    /// Adds an event after the last gap, and then a gap of 0 cycles. Out of memory leaves the pattern as it was.
+    /// Adds an event after the last gap, and then a gap of 0 cycles. Running out of memory leaves the pattern as it
+    /// was.
     pub fn push_event(&mut self, event: SymEvent) -> Result<(), Memory>
         ensures added { OnOk result (self.new ≡ with_event self.old event) }
         ensures unchanged { OnErr result (self.new ≡ self.old) }
@@ -53,8 +54,8 @@ impl Pattern {
         Ok(())
     }
 
-    /// Adds another pattern at the end; the last gap and the first gap of the other become one. Out of memory leaves
-    /// the pattern as it was.
+    /// Adds another pattern at the end; the last gap and the first gap of the other become one. Running out of memory
+    /// leaves the pattern as it was.
     pub fn append(&mut self, other: &Pattern) -> Result<(), Memory>
         requires { self.old.last + first_gap other.now < 2 ^ 63 }
         ensures added { OnOk result (self.new ≡ joined self.old other.now) }

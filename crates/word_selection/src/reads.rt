@@ -9,7 +9,7 @@ use lt_isa::Instr;
 
 /// Appends the code that reads a word of an array with several blocks. Register `to` has the number of the word, and
 /// becomes the word; the three registers after it are overwritten. The blocks are in these slots in order, and have
-/// `size` words each. The only error is want of memory.
+/// `size` words each. The only error is running out of memory.
 pub fn put_read(code: &mut Vec<Instr>, size: u16, slots: &[u8], to: u8) -> Result<(), Memory>
     requires registers { to + 3 < 32 }
     requires words { 1 ≤ size }

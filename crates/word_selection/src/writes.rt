@@ -23,7 +23,7 @@ struct WordWrite {
 
 /// Appends the code that writes a word of an array with several blocks, or writes each word back. Register `to` has the
 /// number of the word, and register `value` the value; the four registers after `to` are overwritten. The blocks are in
-/// these slots in order, and have `size` words each. The only error is want of memory.
+/// these slots in order, and have `size` words each. The only error is running out of memory.
 pub fn put_write(
     code: &mut Vec<Instr>,
     effect: Effect,
