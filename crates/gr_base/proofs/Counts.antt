@@ -1,5 +1,5 @@
 -- Counts of faults that rose by one, or over several calls.
-use Rattle.std.proofs.Common.{ℕ, ◌-◌, ◌^◌, ◌≤◌, ◌⊎◌, inl, inr, ⊎_elim, arith}
+use Rattle.std.proofs.Common.{ℕ, ◌-◌, ◌^◌, ◌≤◌, inl, inr, ⊎_elim, arith}
 use Rattle.std.proofs.lemmas.Bool.{cases_lt}
 use Rattle.gr_base.specs.Prelude.{Rose, one_more}
 

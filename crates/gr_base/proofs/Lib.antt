@@ -3,6 +3,7 @@ pub mod Counts
 pub mod AtLast
 pub mod EachAfter
 pub mod Results
+pub mod Fails
 pub mod Permuted
 pub mod NameMaps
 pub mod Digits

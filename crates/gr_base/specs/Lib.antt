@@ -5,4 +5,5 @@ pub mod Results
 pub mod Lists
 pub mod NameMaps
 pub mod Numerals
+pub mod Fails
 pub mod Prelude
