@@ -9,7 +9,7 @@ use Rattle.gr_word.specs.Prelude.{is_name_byte}
 use Rattle.src_lexer.specs.declared.tokens.Token.{Token}
 use Rattle.src_lexer.specs.Prelude.{is_white, is_in_line, letter_run_of, Slashes, pair_of, Lexed, with_token, token_at, IsLongest, StartsSign, Splits, Ends, Blank, Comment, Word, Double, Single, TooBig, TooLong, Behind, Bad, Found, Skipped, Piece, Faulty, run_found, single_found, sign_found, found_in}
 use Rattle.src_lexer.proofs.Longest.{longest_prefix}
-use Rattle.src_lexer.specs.declared.errors.LexError.TheVariants as error
+use Rattle.src_lexer.specs.declared.errors.LexFault.TheVariants as error
 
 -- the result for a text, from its first piece and the result for the rest
 abbrev next : ℕ → Found → (ℕ → Lexed) → Lexed

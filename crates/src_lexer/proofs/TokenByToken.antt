@@ -1,9 +1,12 @@
 -- Reading a text piece by piece.
 use Rattle.std.proofs.Common.{◌≡◌, ◌⊎◌, inl, inr, ℕ, ◌+◌, ◌<◌, ◌≤◌, List, [], ◌∷◌, ◌++◌, length, length-append, drop, sym, subst, length-drop, arith, Ok, Err}
 use Rattle.std.proofs.lemmas.List.{append-nil, drop-drop, drop_all}
+use Rattle.gr_base.specs.Prelude.{IfFault}
+use Rattle.gr_base.specs.declared.errors.Fail.{Fail}
+use Rattle.gr_base.specs.declared.errors.Fail.TheVariants.{Fault, Memory}
 use Rattle.src_lexer.specs.declared.tokens.Kind.{Kind}
 use Rattle.src_lexer.specs.declared.tokens.Token.{Token}
-use Rattle.src_lexer.specs.declared.errors.LexError.{LexError}
+use Rattle.src_lexer.specs.declared.errors.LexFault.{LexFault}
 use Rattle.src_lexer.specs.Prelude.{token_at, Splits, left_from, BeginsWith, Found, Skipped, Piece, Faulty, found_in}
 use Rattle.src_lexer.proofs.Unread.{begins_with_both, all_of_them, fault_after}
 use Rattle.src_lexer.proofs.FirstPieces.{Allows, found_allows}
@@ -80,12 +83,12 @@ takes_from {text} {at = at} {end} {n} {k} {tokens} s h is e =
     }
 
 -- an error after the tokens so far is the first one
-pub fault_from : {text rest : List ℕ} {at end : ℕ} {e m : LexError} {tokens : List Token}
-    → Stands text at end tokens → end < length text → rest ≡ drop end text → (e ≡ m) ⊎ (found_in end rest ≡ Faulty e)
-    → (e ≡ m) ⊎ Splits at (drop at text) (Err e)
-fault_from s h is (inl memory) = inl memory
-fault_from {text} {end = end} {e} {tokens = tokens} s h is (inr f) =
-    inr (fault_after tokens e s.begins (first_piece text end (Faulty e) h is (sym f)))
+pub fault_from : {text rest : List ℕ} {at end : ℕ} {tokens : List Token} (e : Fail LexFault)
+    → Stands text at end tokens → end < length text → rest ≡ drop end text
+    → IfFault (λ fault. found_in end rest ≡ Faulty fault) e → IfFault (λ fault. Splits at (drop at text) (Err fault)) e
+fault_from Memory s h is f = tt
+fault_from {text} {end = end} {tokens = tokens} (Fault fault) s h is f =
+    fault_after tokens fault s.begins (first_piece text end (Faulty fault) h is (sym f))
 
 -- a text is read to its end, since it has no more tokens than bytes
 pub all_read : (text : List ℕ) (end : ℕ) (tokens : List Token) → BeginsWith (left_from 0 text) tokens (left_from end text)

@@ -2,7 +2,7 @@
 use Rattle.std.proofs.Common.{◌≡◌, List, [], ◌∷◌, ◌++◌, refl, sym, ap, subst, ◌∙◌, Ok, Err}
 use Rattle.std.proofs.lemmas.List.{append-nil}
 use Rattle.src_lexer.specs.declared.tokens.Token.{Token}
-use Rattle.src_lexer.specs.declared.errors.LexError.{LexError}
+use Rattle.src_lexer.specs.declared.errors.LexFault.{LexFault}
 use Rattle.src_lexer.specs.Prelude.{Lexed, with_token, with_tokens, Splits, Ends, Unread, BeginsWith}
 
 -- some tokens and then others precede what both together do
@@ -17,7 +17,7 @@ tokens_before [] second = refl
 tokens_before (token ∷ first) second = ap (with_token token) (tokens_before first second)
 
 -- an error stays the first one after some tokens
-pub tokens_before_fault : (tokens : List Token) (e : LexError) → with_tokens tokens (Err e) ≡ Err e
+pub tokens_before_fault : (tokens : List Token) (e : LexFault) → with_tokens tokens (Err e) ≡ Err e
 tokens_before_fault [] e = refl
 tokens_before_fault (token ∷ tokens) e = ap (with_token token) (tokens_before_fault tokens e)
 
@@ -42,7 +42,7 @@ all_of_them {before} {after} tokens b e =
     (b.splits (Ok []) (ends_there after e))
 
 -- the first error after some tokens is the first error
-pub fault_after : {before after : Unread} (tokens : List Token) (e : LexError)
+pub fault_after : {before after : Unread} (tokens : List Token) (e : LexFault)
     → BeginsWith before tokens after → Splits after.at after.rest (Err e) → Splits before.at before.rest (Err e)
 fault_after {before} tokens e b s =
     subst (λ z. Splits before.at before.rest z) (tokens_before_fault tokens e) (b.splits (Err e) s)

@@ -3,15 +3,15 @@ use Rattle.std.specs.Prelude.{ℕ, ◌+◌, if◌then◌else◌, List, drop, sli
 use Rattle.std.specs.List.{prefix_len, take_while}
 use Rattle.gr_word.specs.Names.{is_name_byte}
 use Rattle.src_lexer.specs.declared.tokens.Kind.{Kind}
-use Rattle.src_lexer.specs.declared.errors.LexError.{LexError}
+use Rattle.src_lexer.specs.declared.errors.LexFault.{LexFault}
 use Rattle.src_lexer.specs.Pieces.{is_white, is_in_line, LetterRun, Is, Big, Long, Mixed, letter_run_of, sign_of, BytePair, Two, Slashes, Apart, pair_of}
-use Rattle.src_lexer.specs.declared.errors.LexError.TheVariants as error
+use Rattle.src_lexer.specs.declared.errors.LexFault.TheVariants as error
 
 -- white space or a comment of this length; a token of this length; or an error
 pub data Found : Type 0 where
   Skipped : (size : ℕ) → Found
   Piece : (k : Kind) (size : ℕ) → Found
-  Faulty : (e : LexError) → Found
+  Faulty : (e : LexFault) → Found
 
 abbrev pub run_found : ℕ → ℕ → LetterRun → Found
 run_found at size (Is k) = Piece k size

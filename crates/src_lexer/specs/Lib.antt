@@ -1,4 +1,5 @@
 pub mod Pieces
+pub mod Fails
 pub mod Splits
 pub mod Unread
 pub mod Found

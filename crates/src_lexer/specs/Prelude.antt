@@ -1,4 +1,5 @@
 -- The definitions that clauses and proofs above cite, passed on from one place. Declares nothing.
+unfoldable pub use Rattle.src_lexer.specs.Fails.{fail_of}
 pub use Rattle.src_lexer.specs.Found.{Faulty, Found, Piece, Skipped}
 unfoldable pub use Rattle.src_lexer.specs.Found.{found_in, run_found, sign_found, single_found}
 unfoldable pub use Rattle.src_lexer.specs.KnownNames.{HoldsOwn}

@@ -5,13 +5,13 @@ use Rattle.std.specs.List.{list_all}
 use Rattle.gr_word.specs.Names.{is_name_byte}
 use Rattle.src_lexer.specs.declared.tokens.Kind.{Kind}
 use Rattle.src_lexer.specs.declared.tokens.Token.{Token}
-use Rattle.src_lexer.specs.declared.errors.LexError.{LexError}
+use Rattle.src_lexer.specs.declared.errors.LexFault.{LexFault}
 use Rattle.src_lexer.specs.Pieces.{is_white, is_in_line, Is, Big, Long, Mixed, letter_run_of, sign_of, Two, Slashes, Apart, pair_of}
-use Rattle.src_lexer.specs.declared.errors.LexError.TheVariants as error
+use Rattle.src_lexer.specs.declared.errors.LexFault.TheVariants as error
 
 -- the tokens of a text, or its first error
 abbrev pub Lexed : Type 0
-Lexed = Result (List Token) LexError
+Lexed = Result (List Token) LexFault
 
 -- a token before the others, if none of them is an error
 abbrev pub with_token : Token → Lexed → Lexed

@@ -1,14 +1,15 @@
 //! The tokens of a text, some at a time.
 
 ghost use Rattle.std.specs.Prelude.{◌≡◌, ◌⊎◌, ◌+◌, ◌<◌, ◌≤◌, ◌^◌, [], length, drop, IfOk, IfErr, Err};
-ghost use Rattle.src_lexer.specs.declared.errors.LexError.TheVariants.{Memory};
+ghost use Rattle.gr_base.specs.Prelude.{IfFault};
 ghost use Rattle.src_lexer.specs.Splits.{Splits};
 ghost use Rattle.src_lexer.specs.Unread.{left_from, BeginsWith};
 
-use crate::errors::LexError;
+use crate::errors::LexFault;
 use crate::known_names::KnownNames;
 use crate::pieces::{Piece, piece_at};
 use crate::tokens::Token;
+use gr_base::Fail;
 use std::alloc::Global;
 use std::marker::Model;
 
@@ -48,14 +49,14 @@ impl<'a> Lexer<'a> {
     }
 
     /// The next tokens, at most 2,048; none at the end of the text. If the text that is left has an error, and its
-    /// first error is among the next tokens, it is returned. `Memory` says nothing about the text.
-    pub fn next(&mut self, alloc: Global) -> Result<Vec<Token>, LexError>
+    /// first error is among the next tokens, it is returned.
+    pub fn next(&mut self, alloc: Global) -> Result<Vec<Token>, Fail<LexFault>>
         ensures begins { IfOk result (λ tokens. BeginsWith self.old tokens.items self.new) }
         ensures few { IfOk result (λ tokens. length tokens.items ≤ 2048) }
         ensures goes { IfOk result (λ tokens.
             ((tokens.items ≡ []) × (self.new.rest ≡ [])) ⊎ (length self.new.rest < length self.old.rest)) }
         ensures ends { IfOk result (λ tokens. tokens.items ≡ [] → self.new.rest ≡ []) }
-        ensures fault { IfErr result (λ e. (e ≡ Memory) ⊎ Splits self.old.at self.old.rest (Err e)) }
+        ensures fault { IfErr result (IfFault (λ fault. Splits self.old.at self.old.rest (Err fault))) }
     {
         let read = read_from(alloc, &mut self.names, self.text, self.at, TOKENS_AT_ONCE)?;
         self.at = read.end;
@@ -77,7 +78,7 @@ pub(crate) fn read_from<'a>(
     text: &'a [u8],
     at: usize,
     most: usize,
-) -> Result<Read, LexError>
+) -> Result<Read, Fail<LexFault>>
     requires few { length text.now ≤ 2 ^ 20 }
     requires within { at ≤ length text.now }
     ensures begins { IfOk result (λ read.
@@ -86,7 +87,7 @@ pub(crate) fn read_from<'a>(
     ensures sizes { IfOk result (λ read. at + length read.tokens.items ≤ read.end) }
     ensures inside { IfOk result (λ read. read.end ≤ length text.now) }
     ensures stops { IfOk result (λ read. (length text.now ≤ read.end) ⊎ (most ≤ length read.tokens.items)) }
-    ensures fault { IfErr result (λ e. (e ≡ Memory) ⊎ Splits at (drop at text.now) (Err e)) }
+    ensures fault { IfErr result (IfFault (λ fault. Splits at (drop at text.now) (Err fault))) }
 {
     let mut tokens = Vec::new(alloc);
     let mut end = at;

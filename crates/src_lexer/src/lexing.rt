@@ -1,5 +1,6 @@
-ghost use Rattle.std.specs.Prelude.{◌≡◌, ◌⊎◌, ◌≤◌, ◌^◌, length, IfOk, IfErr, Ok, Err};
-ghost use Rattle.src_lexer.specs.declared.errors.LexError.TheVariants.{Memory};
+ghost use Rattle.std.specs.Prelude.{◌≤◌, ◌^◌, length, IfOk, IfErr, Ok, Err};
+ghost use Rattle.gr_base.specs.Prelude.{IfFault};
+ghost use Rattle.src_lexer.specs.Fails.{fail_of};
 ghost use Rattle.src_lexer.specs.Spans.{InOrder, AreSlices};
 ghost use Rattle.src_lexer.specs.Splits.{Splits};
 
@@ -19,7 +20,7 @@ pub fn lex(alloc: Global, text: &[u8]) -> Result<Vec<Token>, LexError>
     ensures tokens { IfOk result (λ tokens. Splits 0 text.now (Ok tokens.items)) }
     ensures order { IfOk result (λ tokens. InOrder 0 (length text.now) tokens.items) }
     ensures slices { IfOk result (λ tokens. AreSlices text.now tokens.items) }
-    ensures fault { IfErr result (λ e. (e ≡ Memory) ⊎ Splits 0 text.now (Err e)) }
+    ensures fault { IfErr result (λ e. IfFault (λ fault. Splits 0 text.now (Err fault)) (fail_of e)) }
 {
     let mut names = KnownNames::new(alloc);
     // Each token has at least one byte, so this many are never read.

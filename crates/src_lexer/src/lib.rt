@@ -15,7 +15,7 @@ mod runs;
 mod signs;
 pub mod tokens;
 
-pub use errors::LexError;
+pub use errors::{LexError, LexFault};
 pub use lexer::Lexer;
 pub use lexing::lex;
 pub use tokens::{Kind, Token};

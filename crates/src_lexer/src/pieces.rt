@@ -1,16 +1,17 @@
-ghost use Rattle.std.specs.Prelude.{◌≡◌, ◌⊎◌, ◌<◌, ◌≤◌, ◌+◌, ◌^◌, true, length, drop, slice_index, IfOk, IfErr};
+ghost use Rattle.std.specs.Prelude.{◌≡◌, ◌<◌, ◌≤◌, ◌+◌, ◌^◌, true, length, drop, slice_index, IfOk, IfErr};
 ghost use Rattle.std.specs.List.{prefix_len, take_while};
+ghost use Rattle.gr_base.specs.Prelude.{IfFault};
 ghost use Rattle.gr_word.specs.Prelude.{is_name_byte};
-ghost use Rattle.src_lexer.specs.declared.errors.LexError.TheVariants.{Memory};
 ghost use Rattle.src_lexer.specs.Found.{found_in, run_found, sign_found, single_found, Faulty};
 ghost use Rattle.src_lexer.specs.Pieces.{is_white, is_in_line, letter_run_of, pair_of, sign_of};
 ghost use Rattle.src_lexer.specs.Seen.{piece_seen};
 
-use crate::errors::LexError;
+use crate::errors::LexFault;
 use crate::known_names::KnownNames;
 use crate::runs::{Run, classify};
 use crate::signs::{Pair, single, together};
 use crate::tokens::Kind;
+use gr_base::Fail;
 use std::alloc::Global;
 
 // The first piece of a text: white space or a comment with this number of bytes, or a token with this number of bytes.
@@ -56,23 +57,23 @@ fn word<'a>(
     names: &mut KnownNames<'a>,
     text: &'a [u8],
     at: u32,
-) -> Result<Piece, LexError>
+) -> Result<Piece, Fail<LexFault>>
     requires some { 0 < length text.now }
     requires starts { is_name_byte (slice_index text.now 0) ≡ true }
     requires room { at + length text.now ≤ 2 ^ 20 }
     ensures piece { IfOk result (λ p.
         piece_seen p ≡ run_found at (prefix_len is_name_byte text.now)
         (letter_run_of (take_while is_name_byte text.now))) }
-    ensures fault { IfErr result (λ e. (e ≡ Memory)
-        ⊎ (run_found at (prefix_len is_name_byte text.now) (letter_run_of (take_while is_name_byte text.now))
-        ≡ Faulty e)) }
+    ensures fault { IfErr result (IfFault (λ fault.
+        run_found at (prefix_len is_name_byte text.now) (letter_run_of (take_while is_name_byte text.now))
+        ≡ Faulty fault)) }
 {
     let size = name_length(text);
     match classify(alloc, names, &text[..size])? {
         Run::Is(kind) => Ok(Piece::Known(kind, size)),
-        Run::Big => Err(LexError::NumberTooBig(at)),
-        Run::Long => Err(LexError::NameTooLong(at)),
-        Run::Mixed(digits) => Err(LexError::BadByte(at + digits as u32)),
+        Run::Big => Err(Fail::Fault(LexFault::NumberTooBig(at))),
+        Run::Long => Err(Fail::Fault(LexFault::NameTooLong(at))),
+        Run::Mixed(digits) => Err(Fail::Fault(LexFault::BadByte(at + digits as u32))),
     }
 }
 
@@ -87,18 +88,18 @@ fn second(text: &[u8]) -> u8
     text[1]
 }
 
-fn lone(byte: u8, at: u32) -> Result<Piece, LexError>
+fn lone(byte: u8, at: u32) -> Result<Piece, LexFault>
     ensures piece { IfOk result (λ p. piece_seen p ≡ single_found at (sign_of byte)) }
     ensures fault { IfErr result (λ e. single_found at (sign_of byte) ≡ Faulty e) }
 {
     match single(byte) {
         Some(kind) => Ok(Piece::Known(kind, 1)),
-        None => Err(LexError::BadByte(at)),
+        None => Err(LexFault::BadByte(at)),
     }
 }
 
 // A piece that starts with another byte that isn't white space.
-fn sign(text: &[u8], at: u32) -> Result<Piece, LexError>
+fn sign(text: &[u8], at: u32) -> Result<Piece, LexFault>
     requires some { 0 < length text.now }
     requires few { length text.now ≤ 2 ^ 20 }
     ensures piece { IfOk result (λ p. piece_seen p ≡ sign_found at (slice_index text.now 0) (drop 1 text.now)
@@ -131,11 +132,11 @@ pub(crate) fn piece_at<'a>(
     names: &mut KnownNames<'a>,
     text: &'a [u8],
     at: u32,
-) -> Result<Piece, LexError>
+) -> Result<Piece, Fail<LexFault>>
     requires some { 0 < length text.now }
     requires room { at + length text.now ≤ 2 ^ 20 }
     ensures piece { IfOk result (λ p. piece_seen p ≡ found_in at text.now) }
-    ensures fault { IfErr result (λ e. (e ≡ Memory) ⊎ (found_in at text.now ≡ Faulty e)) }
+    ensures fault { IfErr result (IfFault (λ fault. found_in at text.now ≡ Faulty fault)) }
 {
     if white(text[0]) {
         return Ok(Piece::Skipped(1));
@@ -143,5 +144,8 @@ pub(crate) fn piece_at<'a>(
     if in_name(text[0]) {
         return word(alloc, names, text, at);
     }
-    sign(text, at)
+    match sign(text, at) {
+        Ok(piece) => Ok(piece),
+        Err(fault) => Err(Fail::Fault(fault)),
+    }
 }

@@ -39,4 +39,4 @@ loop-end-preserved c = (
 
 pub returns-in-Err-clause-fault : goal.returns-in-Err-clause-fault
 returns-in-Err-clause-fault c =
-    fault_from c.loop-end.invariant.0 c.loop-end-test.true c.rest.ensures c.in-Err.ensures.fault
+    fault_from c.in-Err.error c.loop-end.invariant.0 c.loop-end-test.true c.rest.ensures c.in-Err.ensures.fault
