@@ -5,10 +5,10 @@ use Rattle.src_lexer.specs.declared.tokens.Token.{Token}
 use Rattle.src_tree.specs.Prelude.{Source}
 use Rattle.src_parser.specs.Prelude.{Limits, limits, Sentence, token_kinds, ProgramBegins, Unexpected, TooDeep, CutShort, Begins, Stray, Deeper, Cut, ParserState, advanced, ExplainsTokens, ReadsTo}
 use Rattle.src_parser.specs.Readers.{Stops}
-use Rattle.src_parser.specs.declared.errors.ParseError.{ParseError}
+use Rattle.src_parser.specs.declared.errors.ParseFault.{ParseFault}
 use Rattle.src_parser.proofs.Refused.{program_laws, start}
 use Rattle.src_parser.proofs.SeveralTokens.{stray_after, deeper_after}
-use Rattle.src_parser.specs.declared.errors.ParseError.TheVariants as error
+use Rattle.src_parser.specs.declared.errors.ParseFault.TheVariants as error
 use Rattle.src_parser.proofs.Tokenwise as tokenwise
 
 begun : {most : Limits} {tokens : List Kind} → Begins Sentence most tokens → ProgramBegins most tokens
@@ -79,7 +79,7 @@ next_begins tokens before after token p split s =
     begun (tokenwise.next_begins program_laws tokens before after token p split s)
 
 -- why tokens aren't all read, as an error of all tokens, for any tokens after them
-pub stops_explained : (before tokens after : List Token) (state : ParserState) (e : ParseError)
+pub stops_explained : (before tokens after : List Token) (state : ParserState) (e : ParseFault)
     → ReadsTo advanced start before state → Stops advanced state tokens e
     → ExplainsTokens e ((before ++ tokens) ++ after)
 stops_explained before tokens after state (error.Unexpected at) read s =
@@ -87,4 +87,3 @@ stops_explained before tokens after state (error.Unexpected at) read s =
 stops_explained before tokens after state (error.TooDeep at) read s =
     too_deep _ at (deeper_after program_laws before tokens after state at read s)
 stops_explained before tokens after state error.EndOfText read s = absurd s
-stops_explained before tokens after state error.Memory read s = tt

@@ -1,15 +1,14 @@
 -- A text whose tokens are read some at a time.
-use Rattle.std.proofs.Common.{◌≡◌, ◌⊎◌, inl, inr, ℕ, List, [], ◌++◌, refl, sym, ap, ◌∙◌, subst, Ok, Err}
+use Rattle.std.proofs.Common.{◌≡◌, ℕ, List, [], ◌++◌, refl, sym, ap, ◌∙◌, subst, Ok, Err}
 use Rattle.std.proofs.lemmas.List.{append-nil}
 use Rattle.src_lexer.specs.declared.tokens.Token.{Token}
-use Rattle.src_lexer.specs.declared.errors.LexError.{LexError}
+use Rattle.src_lexer.specs.declared.errors.LexFault.{LexFault}
 use Rattle.src_lexer.specs.Prelude.{Splits, Unread, BeginsWith}
 use Rattle.src_lexer.proofs.Unread.{begins_with_both, all_of_them, fault_after, tokens_before}
 use Rattle.src_parser.specs.Prelude.{ErrsFirst, HasTokens, ExplainsTextBy}
-use Rattle.src_parser.specs.declared.errors.ParseError.{ParseError}
-use Rattle.src_parser.specs.declared.errors.TextError.{TextError}
-use Rattle.src_lexer.specs.declared.errors.LexError.TheVariants as piece
-use Rattle.src_parser.specs.declared.errors.TextError.TheVariants as text
+use Rattle.src_parser.specs.declared.errors.ParseFault.{ParseFault}
+use Rattle.src_parser.specs.declared.errors.TextFault.{TextFault}
+use Rattle.src_parser.specs.declared.errors.TextFault.TheVariants as text
 
 -- a text of which nothing is read
 abbrev pub whole : List ℕ → Unread
@@ -53,38 +52,35 @@ has_tokens bytes {middle} {after} more p b none ends goal = record {
   is = goal p.tokens p.is;
 }
 
--- an error of the pieces that are left is the text's
-pub piece_error : {Is : List Token → Type 0} (bytes : List ℕ) {middle : Unread} (e : LexError)
-    → Past Is (whole bytes) middle → (e ≡ piece.Memory) ⊎ Splits middle.at middle.rest (Err e)
-    → (e ≡ piece.Memory) ⊎ Splits 0 bytes (Err e)
-piece_error bytes e p (inl memory) = inl memory
-piece_error bytes e p (inr s) = inr (fault_after p.tokens e p.begins s)
+-- a fault of the pieces that are left is the text's
+pub piece_fault : {Is : List Token → Type 0} (bytes : List ℕ) {middle : Unread} (e : LexFault)
+    → Past Is (whole bytes) middle → Splits middle.at middle.rest (Err e) → Splits 0 bytes (Err e)
+piece_fault bytes e p s = fault_after p.tokens e p.begins s
 
--- the error of a text of which a token is wrong: `Wrong` is true of all tokens that begin with those up to that token
-pub wrong_token : (Explains : ParseError → List Token → Type 0) {Is : List Token → Type 0} (bytes : List ℕ)
-    {middle after : Unread} (more slice : List Token) (wrong : ParseError) (e : TextError) → slice ≡ more
+-- the fault of a text of which a token is wrong: `Wrong` is true of all tokens that begin with those up to that token
+pub wrong_token : (Explains : ParseFault → List Token → Type 0) {Is : List Token → Type 0} (bytes : List ℕ)
+    {middle after : Unread} (more slice : List Token) (wrong : ParseFault) (e : TextFault) → slice ≡ more
     → Past Is (whole bytes) middle → BeginsWith middle more after
     → ((before rest : List Token) → Is before → Explains wrong ((before ++ slice) ++ rest))
     → ErrsFirst after wrong e → ExplainsTextBy Explains e bytes
 wrong_token Explains bytes more slice wrong (text.Pieces e) same p b explains errs =
-    piece_error bytes e (past_more {Next = Any} more more refl p b (λ tokens is. tt)) errs
-wrong_token Explains bytes more slice wrong (text.Tokens e) same p b explains errs = inr (record {
+    piece_fault bytes e (past_more {Next = Any} more more refl p b (λ tokens is. tt)) errs
+wrong_token Explains bytes more slice wrong (text.Tokens e) same p b explains errs = record {
   tokens = (p.tokens ++ more) ++ errs.1.tokens;
   split = subst (λ r. Splits 0 bytes r) (tokens_before (p.tokens ++ more) errs.1.tokens)
       ((begins_with_both p.tokens more p.begins b).splits (Ok errs.1.tokens) errs.1.split);
-  is = subst (λ (w : ParseError). Explains w ((p.tokens ++ more) ++ errs.1.tokens)) (sym errs.0)
+  is = subst (λ (w : ParseFault). Explains w ((p.tokens ++ more) ++ errs.1.tokens)) (sym errs.0)
       (subst (λ (ts : List Token). Explains wrong ((p.tokens ++ ts) ++ errs.1.tokens)) same
       (explains p.tokens errs.1.tokens p.is));
-})
+}
 
--- the error of what is left
-pub left_error : {left after : Unread} (wrong : ParseError) (e : LexError) → Past Any left after
-    → (e ≡ piece.Memory) ⊎ Splits after.at after.rest (Err e) → ErrsFirst left wrong (text.Pieces e)
-left_error wrong e p (inl memory) = inl memory
-left_error wrong e p (inr s) = inr (fault_after p.tokens e p.begins s)
+-- the fault of what is left
+pub left_fault : {left after : Unread} (wrong : ParseFault) (e : LexFault) → Past Any left after
+    → Splits after.at after.rest (Err e) → ErrsFirst left wrong (text.Pieces e)
+left_fault wrong e p s = fault_after p.tokens e p.begins s
 
 -- what is left splits
-pub left_splits : {left middle after : Unread} (more : List Token) (wrong : ParseError) → Past Any left middle
+pub left_splits : {left middle after : Unread} (more : List Token) (wrong : ParseFault) → Past Any left middle
     → BeginsWith middle more after → more ≡ [] → (more ≡ [] → after.rest ≡ [])
     → ErrsFirst left wrong (text.Tokens wrong)
 left_splits {left} more wrong p b none ends = (

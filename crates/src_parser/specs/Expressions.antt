@@ -7,8 +7,8 @@ use Rattle.src_lexer.specs.declared.tokens.Token.{Token}
 use Rattle.src_tree.specs.Trees.{Tree}
 use Rattle.src_parser.specs.Grammar.{Limits, limits, operators, SpellsTree}
 use Rattle.src_parser.specs.Refusals.{token_kinds}
-use Rattle.src_parser.specs.declared.errors.ParseError.{ParseError}
-use Rattle.src_parser.specs.declared.errors.ParseError.TheVariants as error
+use Rattle.src_parser.specs.declared.errors.ParseFault.{ParseFault}
+use Rattle.src_parser.specs.declared.errors.ParseFault.TheVariants as error
 
 -- these tokens are an expression with this tree
 pub record IsExpression (most : Limits) (opened used : ℕ) (tokens : List Kind) (tree : Tree) : Type 0 where
@@ -59,8 +59,7 @@ pub record CutExpression (tokens : List Token) (opened used : ℕ) : Type 0 wher
   pub begins : ExpressionBegins limits opened used (token_kinds tokens)
   pub unfinished : (tree : Tree) → IsExpression limits opened used (token_kinds tokens) tree → ⊥
 
-abbrev pub ExplainsExpression : ParseError → List Token → (opened used : ℕ) → Type 0
+abbrev pub ExplainsExpression : ParseFault → List Token → (opened used : ℕ) → Type 0
 ExplainsExpression (error.Unexpected at) tokens opened used = StrayToken tokens opened used at
 ExplainsExpression error.EndOfText tokens opened used = CutExpression tokens opened used
 ExplainsExpression (error.TooDeep at) tokens opened used = TokenTooDeep tokens opened used at
-ExplainsExpression error.Memory tokens opened used = Unit {0}

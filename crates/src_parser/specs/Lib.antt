@@ -6,6 +6,7 @@ pub mod Parts
 pub mod Statements
 pub mod Advances
 pub mod Seen
+pub mod Fails
 pub mod Explained
 pub mod Printable
 pub mod Source

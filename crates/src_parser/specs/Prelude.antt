@@ -3,6 +3,7 @@ pub use Rattle.src_parser.specs.Advances.{Between, Declaring, Doing, ParserState
 unfoldable pub use Rattle.src_parser.specs.Advances.{advanced, between, open_braces, program_of, programs, source_made, with_heading}
 pub use Rattle.src_parser.specs.Assignments.{Adds, EndedBy}
 unfoldable pub use Rattle.src_parser.specs.Explained.{ExplainsTokens}
+unfoldable pub use Rattle.src_parser.specs.Fails.{fail_of}
 pub use Rattle.src_parser.specs.Expressions.{CutExpression, ExpressionBegins, FoundExpression, IsExpression, StrayToken, TokenTooDeep}
 pub use Rattle.src_parser.specs.Grammar.{Array, Bracketed, Chooses, ChoosesElse, Compared, Compares, Declares, Ends, Indexed, Joined, Limits, Named, Negated, NoMore, Numeral, Program, Puts, Repeats, Scalar, Sentence, Sets, SpellsTree, Writes}
 unfoldable pub use Rattle.src_parser.specs.Grammar.{comparison_of, keyword_of, level_of, limits, operator_of, operators}

@@ -1,16 +1,14 @@
 -- A source text: it splits into tokens, and these are a program; or its first error (this project's profile).
-use Rattle.std.specs.Prelude.{◌≡◌, ◌⊎◌, ℕ, List, Ok, Err}
+use Rattle.std.specs.Prelude.{ℕ, List, Ok, Err}
 use Rattle.src_lexer.specs.declared.tokens.Token.{Token}
 use Rattle.src_lexer.specs.Splits.{Splits}
 use Rattle.src_tree.specs.Trees.{Source}
 use Rattle.src_parser.specs.Explained.{ExplainsTokens}
 use Rattle.src_parser.specs.Grammar.{limits, Sentence}
 use Rattle.src_parser.specs.Refusals.{token_kinds}
-use Rattle.src_parser.specs.declared.errors.ParseError.{ParseError}
-use Rattle.src_parser.specs.declared.errors.TextError.{TextError}
-use Rattle.src_lexer.specs.declared.errors.LexError.TheVariants as piece
-use Rattle.src_parser.specs.declared.errors.ParseError.TheVariants as token
-use Rattle.src_parser.specs.declared.errors.TextError.TheVariants as error
+use Rattle.src_parser.specs.declared.errors.ParseFault.{ParseFault}
+use Rattle.src_parser.specs.declared.errors.TextFault.{TextFault}
+use Rattle.src_parser.specs.declared.errors.TextFault.TheVariants as fault
 
 -- a text encodes a program
 pub record SpellsSource (text : List ℕ) (program : Source) : Type 0 where
@@ -24,12 +22,12 @@ pub record HasTokens (Is : List Token → Type 0) (text : List ℕ) : Type 0 whe
   pub split : Splits 0 text (Ok tokens)
   pub is : Is tokens
 
--- Why a text isn't what its tokens are read as: the first error of its pieces; or it splits into tokens, and this error
--- is true of them. Running out of memory says nothing about the text.
-abbrev pub ExplainsTextBy : (ParseError → List Token → Type 0) → TextError → List ℕ → Type 0
-ExplainsTextBy Explains (error.Pieces e) text = (e ≡ piece.Memory) ⊎ Splits 0 text (Err e)
-ExplainsTextBy Explains (error.Tokens e) text = (e ≡ token.Memory) ⊎ HasTokens (Explains e) text
+-- Why a text isn't what its tokens are read as: the first fault of its pieces; or it splits into tokens, and this fault
+-- is true of them.
+abbrev pub ExplainsTextBy : (ParseFault → List Token → Type 0) → TextFault → List ℕ → Type 0
+ExplainsTextBy Explains (fault.Pieces e) text = Splits 0 text (Err e)
+ExplainsTextBy Explains (fault.Tokens e) text = HasTokens (Explains e) text
 
 -- why a text isn't a program
-abbrev pub ExplainsText : TextError → List ℕ → Type 0
+abbrev pub ExplainsText : TextFault → List ℕ → Type 0
 ExplainsText e text = ExplainsTextBy ExplainsTokens e text

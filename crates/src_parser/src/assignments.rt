@@ -12,13 +12,12 @@ ghost use Rattle.src_parser.specs.Advances.{Doing};
 ghost use Rattle.src_tree.specs.declared.trees.Decl.{Decl};
 ghost use Rattle.src_parser.specs.Statements.{Ready};
 
-use crate::errors::ParseError;
 use crate::languages::{Language, Programs};
 use crate::lone_expressions::expression;
 use crate::putting::push;
 use crate::readings::MAX_OPERATORS;
 use crate::states::{Blocks, ParserState, Pause, Phase};
-use gr_base::Memory;
+use gr_base::{Fail, Memory};
 use gr_word::Name;
 use src_lexer::{Kind, Token};
 use src_tree::{Expr, Stmt};
@@ -36,8 +35,8 @@ fn found(
 {
     match expression(alloc, tokens, opened, used) {
         Ok((tree, count)) => Ok(Some((tree, count))),
-        Err(ParseError::Memory) => Err(Memory),
-        Err(_) => Ok(None),
+        Err(Fail::Memory) => Err(Memory),
+        Err(Fail::Fault(_)) => Ok(None),
     }
 }
 

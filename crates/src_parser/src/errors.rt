@@ -1,12 +1,13 @@
 ghost use Rattle.std.specs.Prelude.{◌≡◌};
-ghost use Rattle.src_parser.specs.declared.errors.ParseError.TheVariants.{Memory};
+ghost use Rattle.src_parser.specs.Fails.{fail_of};
 
-use src_lexer::LexError;
+use gr_base::Fail;
+use src_lexer::LexFault;
 use thiserror::Error;
 
 /// Why tokens aren't a program. The number is the place of the token's first byte.
-#[derive(Debug, Drop, PartialEq, Eq, Error)]
-pub enum ParseError {
+#[derive(Clone, Copy, Debug, PartialEq, Eq, Error)]
+pub enum ParseFault {
     /// No program can continue with this token: the tokens before it begin a program, and together with it they begin
     /// none.
     #[error("no program goes on with the token at byte {0}")]
@@ -17,26 +18,45 @@ pub enum ParseError {
     /// With this token, the program would exceed a limit of nesting.
     #[error("too much is nested at byte {0}")]
     TooDeep(u32),
+}
+
+/// Why [`crate::parse`] returns no program: the tokens' first error, or that memory ran out.
+#[derive(Debug, Drop, PartialEq, Eq, Error)]
+pub enum ParseError {
+    /// See [`ParseFault::Unexpected`].
+    #[error("no program goes on with the token at byte {0}")]
+    Unexpected(u32),
+    /// See [`ParseFault::EndOfText`].
+    #[error("the text ends within a program")]
+    EndOfText,
+    /// See [`ParseFault::TooDeep`].
+    #[error("too much is nested at byte {0}")]
+    TooDeep(u32),
     /// Memory ran out, which says nothing about the tokens.
     #[error("out of memory")]
     Memory,
 }
 
-impl<E: Into<gr_base::Memory> + Drop> From<E> for ParseError {
-    ghost from_gives = { λ _ e. e ≡ Memory };
+impl From<Fail<ParseFault>> for ParseError {
+    ghost from_gives = { λ fail error. fail_of error ≡ fail };
 
-    fn from(_error: E) -> ParseError {
-        ParseError::Memory
+    fn from(fail: Fail<ParseFault>) -> ParseError {
+        match fail {
+            Fail::Fault(ParseFault::Unexpected(at)) => ParseError::Unexpected(at),
+            Fail::Fault(ParseFault::EndOfText) => ParseError::EndOfText,
+            Fail::Fault(ParseFault::TooDeep(at)) => ParseError::TooDeep(at),
+            Fail::Memory => ParseError::Memory,
+        }
     }
 }
 
 /// Why a text isn't a program: the first error of its pieces; or, if it splits into tokens, that of the tokens.
-#[derive(Debug, Drop, PartialEq, Eq, Error)]
-pub enum TextError {
+#[derive(Clone, Copy, Debug, PartialEq, Eq, Error)]
+pub enum TextFault {
     /// The text doesn't split into tokens.
     #[error(transparent)]
-    Pieces(LexError),
+    Pieces(LexFault),
     /// The tokens aren't a program.
     #[error(transparent)]
-    Tokens(ParseError),
+    Tokens(ParseFault),
 }

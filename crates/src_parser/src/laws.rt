@@ -1,10 +1,9 @@
-ghost use Rattle.std.specs.Prelude.{◌≡◌, ◌≢◌, ℕ, List, Err};
+ghost use Rattle.std.specs.Prelude.{◌≡◌, ℕ, List, Err};
 ghost use Rattle.src_lexer.specs.declared.tokens.Kind.{Kind};
 ghost use Rattle.src_lexer.specs.declared.tokens.Token.{Token};
 ghost use Rattle.src_lexer.specs.Prelude.{Splits};
-ghost use Rattle.src_lexer.specs.declared.errors.LexError.{LexError};
-ghost use Rattle.src_parser.specs.declared.errors.ParseError.{ParseError};
-ghost use Rattle.src_parser.specs.declared.errors.ParseError.TheVariants.{Memory};
+ghost use Rattle.src_lexer.specs.declared.errors.LexFault.{LexFault};
+ghost use Rattle.src_parser.specs.declared.errors.ParseFault.{ParseFault};
 ghost use Rattle.src_parser.specs.Explained.{ExplainsTokens};
 ghost use Rattle.src_parser.specs.Grammar.{limits, Sentence};
 ghost use Rattle.src_parser.specs.Printable.{IsPrintable};
@@ -27,10 +26,9 @@ pub fn no_refusal()
         → ⊥ }
 {}
 
-/// A law: at most one error is true of tokens, with its reason and its place. `Memory` says nothing about them.
+/// A law: at most one fault is true of tokens, with its reason and its place.
 pub fn one_refusal()
-    ensures { (tokens : List Token) (a b : ParseError) → ExplainsTokens a tokens → ExplainsTokens b tokens
-        → a ≢ Memory → b ≢ Memory → a ≡ b }
+    ensures { (tokens : List Token) (a b : ParseFault) → ExplainsTokens a tokens → ExplainsTokens b tokens → a ≡ b }
 {}
 
 /// Laws of source texts. The canonical text of a printable program encodes that program, so its tokens are read as that
@@ -39,5 +37,5 @@ pub fn one_refusal()
 pub fn source_laws()
     ensures read_again { (p : Source) → IsPrintable p → SpellsSource (source_text p) p }
     ensures one_program { (text : List ℕ) (p q : Source) → SpellsSource text p → SpellsSource text q → p ≡ q }
-    ensures no_fault { (text : List ℕ) (p : Source) (e : LexError) → SpellsSource text p → Splits 0 text (Err e) → ⊥ }
+    ensures no_fault { (text : List ℕ) (p : Source) (e : LexFault) → SpellsSource text p → Splits 0 text (Err e) → ⊥ }
 {}

@@ -29,7 +29,7 @@ pub mod statements;
 pub mod states;
 pub mod texts;
 
-pub use errors::{ParseError, TextError};
+pub use errors::{ParseError, ParseFault, TextFault};
 pub use lone_expressions::expr_at;
 pub use parsing::{ProgramReader, parse};
 pub use readers::{TokenReader, read_tree};

@@ -1,14 +1,16 @@
 ghost use Rattle.std.specs.Prelude.{◌≡◌, ◌-◌, ◌^◌, ◌<◌, ◌≤◌, IfOk, IfErr, drop, length, option_map};
+ghost use Rattle.gr_base.specs.Prelude.{IfFault};
 ghost use Rattle.src_tree.specs.Prelude.{expr_tree};
 ghost use Rattle.src_parser.specs.Expressions.{FoundExpression, ExplainsExpression};
+ghost use Rattle.src_parser.specs.Fails.{fail_of};
 ghost use Rattle.src_parser.specs.Grammar.{limits};
 ghost use Rattle.src_parser.specs.ReadTokens.{ended};
 ghost use Rattle.src_parser.specs.Seen.{reading_of};
 
-use crate::errors::ParseError;
+use crate::errors::{ParseError, ParseFault};
 use crate::expressions::{finish, fresh, read};
 use crate::readings::{Reading, TokenStep};
-use gr_base::Memory;
+use gr_base::{Fail, Memory};
 use src_lexer::{Kind, Token};
 use src_tree::Expr;
 use std::alloc::Global;
@@ -37,17 +39,17 @@ pub(crate) fn expression(
     tokens: &[Token],
     opened: u32,
     used: u32,
-) -> Result<(Expr, usize), ParseError>
+) -> Result<(Expr, usize), Fail<ParseFault>>
     requires { used ≤ 256 }
     ensures found { IfOk result (λ r. FoundExpression tokens.now opened used (expr_tree r.0) r.1) }
     ensures within { IfOk result (λ r. r.1 ≤ length tokens.now) }
-    ensures refused { IfErr result (λ e. ExplainsExpression e tokens.now opened used) }
+    ensures refused { IfErr result (IfFault (λ fault. ExplainsExpression fault tokens.now opened used)) }
 {
     let mut reading = fresh(alloc, opened, used);
     for (i, token) in tokens.iter().enumerate() {
         let Ok(step) = read(alloc, &mut reading, &token.kind) else {
             drop(reading);
-            return Err(ParseError::Memory);
+            return Err(Fail::Memory);
         };
         match step {
             TokenStep::Moves => {}
@@ -56,18 +58,18 @@ pub(crate) fn expression(
                 drop(reading);
                 match tree {
                     Some(tree) => return Ok((tree, i)),
-                    None => return Err(ParseError::Unexpected(token.start)),
+                    None => return Err(Fail::Fault(ParseFault::Unexpected(token.start))),
                 }
             }
             TokenStep::Deep => {
                 drop(reading);
-                return Err(ParseError::TooDeep(token.start));
+                return Err(Fail::Fault(ParseFault::TooDeep(token.start)));
             }
         }
     }
     match end(alloc, reading)? {
         Some(tree) => Ok((tree, tokens.len())),
-        None => Err(ParseError::EndOfText),
+        None => Err(Fail::Fault(ParseFault::EndOfText)),
     }
 }
 
@@ -92,11 +94,12 @@ pub fn expr_at(
     ensures behind { IfOk result (λ r. from ≤ r.1) }
     ensures found { IfOk result (λ r.
         FoundExpression (drop from tokens.now) opened used (expr_tree r.0) (r.1 - from)) }
-    ensures refused { IfErr result (λ e. ExplainsExpression e (drop from tokens.now) opened used) }
+    ensures refused { IfErr result (λ e.
+        IfFault (λ fault. ExplainsExpression fault (drop from tokens.now) opened used) (fail_of e)) }
 {
     let (_, rest) = tokens.split_at(from as usize);
     match expression(alloc, rest, opened, used) {
         Ok((tree, count)) => Ok((tree, from + count as u32)),
-        Err(error) => Err(error),
+        Err(fail) => Err(ParseError::from(fail)),
     }
 }

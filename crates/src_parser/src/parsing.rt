@@ -1,6 +1,8 @@
 ghost use Rattle.std.specs.Prelude.{◌≡◌, ◌++◌, ◌∷◌, [], IfOk, IfErr, OnOk, option_map};
+ghost use Rattle.gr_base.specs.Prelude.{IfFault};
 ghost use Rattle.src_tree.specs.Prelude.{source_of, statement_of};
 ghost use Rattle.src_parser.specs.Explained.{ExplainsTokens};
+ghost use Rattle.src_parser.specs.Fails.{fail_of};
 ghost use Rattle.src_parser.specs.Grammar.{limits, Sentence};
 ghost use Rattle.src_parser.specs.Readers.{ReadsTo, Stops};
 ghost use Rattle.src_parser.specs.Refusals.{token_kinds};
@@ -10,14 +12,14 @@ ghost use Rattle.src_parser.specs.Statements.{between_statements};
 ghost use Rattle.src_parser.specs.Tokenwise.{mapped};
 
 use crate::assignments::read_assignment;
-use crate::errors::ParseError;
+use crate::errors::{ParseError, ParseFault};
 use crate::headings::{Heading, HeadingAdvance, read_heading};
 use crate::languages::Programs;
 use crate::putting::{push, put};
 use crate::readers::{TokenReader, read_tree};
 use crate::statements::{begin, complete, perform};
 use crate::states::{Advance, Blocks, ParserState, Pause, Phase};
-use gr_base::Memory;
+use gr_base::{Fail, Memory};
 use gr_word::Label;
 use src_lexer::{Kind, Token};
 use src_tree::{Decl, Program, Stmt};
@@ -160,14 +162,18 @@ fn conclude(alloc: Global, state: ParserState) -> Result<Option<Program>, Memory
 }
 
 // Reads tokens, each assignment in one go.
-fn read_tokens(alloc: Global, state: &mut ParserState, tokens: &[Token]) -> Result<(), ParseError>
+fn read_tokens(
+    alloc: Global,
+    state: &mut ParserState,
+    tokens: &[Token],
+) -> Result<(), Fail<ParseFault>>
     ensures leads { OnOk result (ReadsTo advanced (state_of state.old) tokens.now (state_of state.new)) }
-    ensures stops { IfErr result (λ error. Stops advanced (state_of state.old) tokens.now error) }
+    ensures stops { IfErr result (IfFault (Stops advanced (state_of state.old) tokens.now)) }
 {
     let mut at = 0;
     while at < tokens.len() {
         let Ok(count) = read_assignment(alloc, state, tokens.split_at(at).1) else {
-            return Err(ParseError::Memory);
+            return Err(Fail::Memory);
         };
         if count > 0 {
             at += count;
@@ -175,12 +181,12 @@ fn read_tokens(alloc: Global, state: &mut ParserState, tokens: &[Token]) -> Resu
         }
         let token = &tokens[at];
         let Ok(advance) = take(alloc, state, &token.kind) else {
-            return Err(ParseError::Memory);
+            return Err(Fail::Memory);
         };
         match advance {
             Advance::Goes => at += 1,
-            Advance::Wrong => return Err(ParseError::Unexpected(token.start)),
-            Advance::TooMuch => return Err(ParseError::TooDeep(token.start)),
+            Advance::Wrong => return Err(Fail::Fault(ParseFault::Unexpected(token.start))),
+            Advance::TooMuch => return Err(Fail::Fault(ParseFault::TooDeep(token.start))),
         }
     }
     Ok(())
@@ -216,14 +222,14 @@ impl TokenReader for ProgramReader {
         }
     }
 
-    fn read(&mut self, alloc: Global, tokens: &[Token]) -> Result<(), ParseError> {
+    fn read(&mut self, alloc: Global, tokens: &[Token]) -> Result<(), Fail<ParseFault>> {
         read_tokens(alloc, &mut self.state, tokens)
     }
 
-    fn finish(self, alloc: Global) -> Result<Program, ParseError> {
+    fn finish(self, alloc: Global) -> Result<Program, Fail<ParseFault>> {
         match conclude(alloc, self.state)? {
             Some(program) => Ok(program),
-            None => Err(ParseError::EndOfText),
+            None => Err(Fail::Fault(ParseFault::EndOfText)),
         }
     }
 }
@@ -236,7 +242,8 @@ impl TokenReader for ProgramReader {
 /// the tokens begin a program but aren't one. `Memory` says nothing about the tokens.
 pub fn parse(alloc: Global, tokens: &[Token]) -> Result<Program, ParseError>
     ensures parsed { IfOk result (λ program. Sentence limits (token_kinds tokens.now) (source_of program)) }
-    ensures refused { IfErr result (λ error. ExplainsTokens error tokens.now) }
+    ensures refused { IfErr result (λ error. IfFault (λ fault. ExplainsTokens fault tokens.now) (fail_of error)) }
 {
-    read_tree::<ProgramReader>(alloc, tokens)
+    let program = read_tree::<ProgramReader>(alloc, tokens)?;
+    Ok(program)
 }

@@ -1,6 +1,7 @@
 use Rattle.std.proofs.Common.{List, [], subst}
 use Rattle.std.proofs.lemmas.List.{append-nil}
 use Rattle.std.proofs.lemmas.Result.{IfErr-weaker, IfOk-weaker}
+use Rattle.gr_base.proofs.Fails.{if_weaker}
 use Rattle.src_lexer.specs.declared.tokens.Token.{Token}
 use Rattle.src_parser.proofs.readers.read_tree.Goals as goal
 
@@ -13,10 +14,11 @@ returns-in-Ok-clause-tree g c =
 pub returns-in-Ok-clause-refused : goal.returns-in-Ok-clause-refused
 returns-in-Ok-clause-refused g c =
     IfErr-weaker c.finish.result _ _
-    (λ error cut. cut c.args.tokens.now (c.in-Ok.ensures.read [] c.new-reader.ensures))
+    (λ fail. if_weaker fail (λ fault cut. cut c.args.tokens.now (c.in-Ok.ensures.read [] c.new-reader.ensures)))
     c.finish.ensures.cut
 
 pub returns-in-Err-clause-refused : goal.returns-in-Err-clause-refused
 returns-in-Err-clause-refused g c =
-    subst (λ (ts : List Token). g.R.TokenReader.Explains c.in-Err.error ts) (append-nil c.args.tokens.now)
-    (c.in-Err.ensures.refused [] [] c.new-reader.ensures)
+    if_weaker c.in-Err.error (λ fault refused.
+    subst (λ (ts : List Token). g.R.TokenReader.Explains fault ts) (append-nil c.args.tokens.now)
+    (refused [] [] c.new-reader.ensures)) c.in-Err.ensures.refused

@@ -1,6 +1,9 @@
-use Rattle.std.proofs.Common.{vec_len, sym, ◌∙◌, eqb-true, inr, arith}
+use Rattle.std.proofs.Common.{List, vec_len, sym, ◌∙◌, eqb-true, subst, arith}
 use Rattle.std.proofs.lemmas.List.{nil_from_length}
-use Rattle.src_parser.proofs.TextTokens.{past_more, has_tokens, piece_error, wrong_token}
+use Rattle.gr_base.proofs.Fails.{if_mapped, if_weaker}
+use Rattle.src_parser.specs.Prelude.{ExplainsTextBy}
+use Rattle.src_parser.specs.declared.errors.TextFault.{TextFault}
+use Rattle.src_parser.proofs.TextTokens.{past_more, has_tokens, piece_fault, wrong_token}
 use Rattle.src_parser.proofs.texts.read_text.Goals as goal
 
 pub returns-in-Ok-finish-clause-spelled : goal.returns-in-Ok-finish-clause-spelled
@@ -13,17 +16,22 @@ returns-in-Ok-finish-clause-spelled g c =
 
 pub returns-in-Err-finish-clause-refused : goal.returns-in-Err-finish-clause-refused
 returns-in-Err-finish-clause-refused g c =
-    inr (has_tokens c.args.text.now c.in-Ok.tokens.items c.reading.invariant c.in-Ok.ensures.begins
+    let Q : TextFault → Type 0 = λ fault. ExplainsTextBy g.R.TokenReader.Explains fault c.args.text.now in
+    if_mapped Q c.in-Err-finish.fail c.map.result
+    (λ e d is cut. subst Q (sym is)
+    (has_tokens c.args.text.now c.in-Ok.tokens.items c.reading.invariant c.in-Ok.ensures.begins
     (nil_from_length c.in-Ok.tokens.items
     (let none = eqb-true (vec_len c.in-Ok.tokens) 0 (sym c.is_empty.ensures ∙ c.if-is_empty.true) in
     omega (arith, none, c.in-Ok.tokens.ok)))
-    c.in-Ok.ensures.ends (λ tokens read. c.in-Err-finish.ensures.cut tokens read))
+    c.in-Ok.ensures.ends cut))
+    c.map.ensures c.in-Err-finish.ensures.cut
 
-pub returns-in-Err-read-clause-refused : goal.returns-in-Err-read-clause-refused
-returns-in-Err-read-clause-refused g c =
-    wrong_token _ c.args.text.now c.in-Ok.tokens.items c.deref.result.now c.in-Err-read.error c.first_error.result
+pub returns-in-Err-Fault-clause-refused : goal.returns-in-Err-Fault-clause-refused
+returns-in-Err-Fault-clause-refused g c =
+    if_weaker c.first_fault.result (λ fault errs.
+    wrong_token _ c.args.text.now c.in-Ok.tokens.items c.deref.result.now c.in-Err-Fault.fault fault
     c.deref.ensures.value c.reading.invariant c.in-Ok.ensures.begins
-    (λ before rest read. c.in-Err-read.ensures.refused before rest read) c.first_error.ensures
+    (rw c.in-Err-Fault.field-0-is at c.in-Err-Fault.ensures.refused) errs) c.first_fault.ensures
 
 pub reading-preserved : goal.reading-preserved
 reading-preserved g c =
@@ -32,4 +40,7 @@ reading-preserved g c =
 
 pub returns-in-Err-clause-refused : goal.returns-in-Err-clause-refused
 returns-in-Err-clause-refused g c =
-    piece_error c.args.text.now c.in-Err.error c.reading.invariant c.in-Err.ensures.fault
+    let Q : TextFault → Type 0 = λ fault. ExplainsTextBy g.R.TokenReader.Explains fault c.args.text.now in
+    if_mapped Q c.in-Err.fail c.map-in-Err.result
+    (λ e d is s. subst Q (sym is) (piece_fault c.args.text.now e c.reading.invariant s))
+    c.map-in-Err.ensures c.in-Err.ensures.fault

@@ -1,4 +1,5 @@
 use Rattle.std.proofs.lemmas.Result.{on_ok_weaker, IfErr-weaker}
+use Rattle.gr_base.proofs.Fails.{if_weaker}
 use Rattle.src_parser.specs.Prelude.{advanced, state_of}
 use Rattle.src_parser.proofs.Places.{stops_explained}
 use Rattle.src_parser.proofs.Refused.{start}
@@ -14,6 +15,6 @@ returns-clause-read c =
 pub returns-clause-refused : goal.returns-clause-refused
 returns-clause-refused c =
     IfErr-weaker c.read_tokens.result _ _
-    (λ error stops before after read. stops_explained before c.args.tokens.now after (state_of c.args.self.now.state) error
-    read stops)
+    (λ fail. if_weaker fail (λ fault stops before after read.
+    stops_explained before c.args.tokens.now after (state_of c.args.self.now.state) fault read stops))
     c.read_tokens.ensures.stops
