@@ -5,7 +5,7 @@ use Rattle.src_lexer.specs.declared.tokens.Kind.{Kind}
 use Rattle.src_lexer.specs.declared.tokens.Token.{Token}
 use Rattle.src_parser.specs.Prelude.{Limits, complete_of, ReadsTo, Goes, Completes}
 use Rattle.src_parser.specs.Readers.{Stops}
-use Rattle.src_parser.specs.declared.errors.ParseError.{ParseError}
+use Rattle.src_parser.specs.declared.errors.ParseFault.{ParseFault}
 use Rattle.src_parser.proofs.Spelled.{Spelled}
 use Rattle.src_parser.proofs.StatementsStanding.{complete_spelled}
 use Rattle.src_parser.proofs.SeveralTokens.{stray_after, deeper_after}
@@ -21,7 +21,7 @@ use Rattle.procs_parser.proofs.RoomsOfFiles.{shape}
 use Rattle.procs_parser.proofs.StandingFiles.{Sentence, Program, Begun, AtTop, Standing, InBetween, InHeading, InHead, InStatements, InArguments}
 use Rattle.procs_parser.proofs.StepsOfFiles.{steps, nothing_read}
 use Rattle.src_lexer.specs.declared.tokens.Kind.TheVariants as kind
-use Rattle.src_parser.specs.declared.errors.ParseError.TheVariants as error
+use Rattle.src_parser.specs.declared.errors.ParseFault.TheVariants as error
 
 -- tokens that were taken lead to a state, and none of them is hidden
 pub record WasTaken (most : Limits) (last : ParserState) (tokens : List Kind) : Type 0 where
@@ -103,7 +103,7 @@ pub one_file : (most : Limits) (tokens : List Kind) (f g : File) → SpellsFile 
 one_file most tokens f g s t = let a = file_read s in let b = file_read t in cc
 
 -- why tokens aren't all read, as an error of all tokens, for any tokens after them
-pub stops_explained : (before tokens after : List Token) (state : ParserState) (e : ParseError)
+pub stops_explained : (before tokens after : List Token) (state : ParserState) (e : ParseFault)
     → ReadsTo taken (Between []) before state → Stops taken state tokens e
     → ExplainsFile e ((before ++ tokens) ++ after)
 stops_explained before tokens after state (error.Unexpected at) read s =
@@ -111,4 +111,3 @@ stops_explained before tokens after state (error.Unexpected at) read s =
 stops_explained before tokens after state (error.TooDeep at) read s =
     deeper_after file_laws before tokens after state at read s
 stops_explained before tokens after state error.EndOfText read s = absurd s
-stops_explained before tokens after state error.Memory read s = tt

@@ -2,13 +2,12 @@
 -- profile).
 use Rattle.std.specs.Prelude.{List}
 use Rattle.src_lexer.specs.declared.tokens.Token.{Token}
-use Rattle.src_parser.specs.declared.errors.ParseError.{ParseError}
+use Rattle.src_parser.specs.declared.errors.ParseFault.{ParseFault}
 use Rattle.src_parser.specs.Tokenwise.{Stray, Deeper, Cut}
 use Rattle.procs_parser.specs.FileGrammar.{SpellsFile}
-use Rattle.src_parser.specs.declared.errors.ParseError.TheVariants as error
+use Rattle.src_parser.specs.declared.errors.ParseFault.TheVariants as error
 
-abbrev pub ExplainsFile : ParseError → List Token → Type 0
+abbrev pub ExplainsFile : ParseFault → List Token → Type 0
 ExplainsFile (error.Unexpected at) tokens = Stray SpellsFile tokens at
 ExplainsFile error.EndOfText tokens = Cut SpellsFile tokens
 ExplainsFile (error.TooDeep at) tokens = Deeper SpellsFile tokens at
-ExplainsFile error.Memory tokens = Unit {0}

@@ -3,7 +3,7 @@ use Rattle.std.specs.Prelude.{ℕ, List}
 use Rattle.src_parser.specs.Grammar.{limits}
 use Rattle.src_parser.specs.Refusals.{token_kinds}
 use Rattle.src_parser.specs.Source.{HasTokens, ExplainsTextBy}
-use Rattle.src_parser.specs.declared.errors.TextError.{TextError}
+use Rattle.src_parser.specs.declared.errors.TextFault.{TextFault}
 use Rattle.src_procs.specs.Trees.{File}
 use Rattle.procs_parser.specs.FileGrammar.{SpellsFile}
 use Rattle.procs_parser.specs.FileRefusals.{ExplainsFile}
@@ -13,5 +13,5 @@ abbrev pub SpellsFileText : List ℕ → File → Type 0
 SpellsFileText text file = HasTokens (λ tokens. SpellsFile limits (token_kinds tokens) file) text
 
 -- why a text isn't a file
-abbrev pub ExplainsFileText : TextError → List ℕ → Type 0
+abbrev pub ExplainsFileText : TextFault → List ℕ → Type 0
 ExplainsFileText e text = ExplainsTextBy ExplainsFile e text

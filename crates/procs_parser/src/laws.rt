@@ -1,9 +1,8 @@
-ghost use Rattle.std.specs.Prelude.{◌≡◌, ◌≢◌, List};
+ghost use Rattle.std.specs.Prelude.{◌≡◌, List};
 ghost use Rattle.src_lexer.specs.declared.tokens.Token.{Token};
 ghost use Rattle.src_lexer.specs.declared.tokens.Kind.{Kind};
 ghost use Rattle.src_parser.specs.Prelude.{limits, token_kinds};
-ghost use Rattle.src_parser.specs.declared.errors.ParseError.{ParseError};
-ghost use Rattle.src_parser.specs.declared.errors.ParseError.TheVariants.{Memory};
+ghost use Rattle.src_parser.specs.declared.errors.ParseFault.{ParseFault};
 ghost use Rattle.src_procs.specs.Prelude.{File};
 ghost use Rattle.procs_parser.specs.FileGrammar.{SpellsFile};
 ghost use Rattle.procs_parser.specs.FileRefusals.{ExplainsFile};
@@ -13,14 +12,13 @@ pub fn one_file()
     ensures { (tokens : List Kind) (f g : File) → SpellsFile limits tokens f → SpellsFile limits tokens g → f ≡ g }
 {}
 
-/// A law: no error is true of tokens that are a file. `Memory` says nothing about them.
+/// A law: no fault is true of tokens that are a file.
 pub fn no_refusal()
-    ensures { (tokens : List Token) (f : File) (e : ParseError) → SpellsFile limits (token_kinds tokens) f
-        → ExplainsFile e tokens → e ≢ Memory → ⊥ }
+    ensures { (tokens : List Token) (f : File) (e : ParseFault) → SpellsFile limits (token_kinds tokens) f
+        → ExplainsFile e tokens → ⊥ }
 {}
 
-/// A law: at most one error is true of tokens, with its reason and its place. `Memory` says nothing about them.
+/// A law: at most one fault is true of tokens, with its reason and its place.
 pub fn one_refusal()
-    ensures { (tokens : List Token) (a b : ParseError) → ExplainsFile a tokens → ExplainsFile b tokens
-        → a ≢ Memory → b ≢ Memory → a ≡ b }
+    ensures { (tokens : List Token) (a b : ParseFault) → ExplainsFile a tokens → ExplainsFile b tokens → a ≡ b }
 {}

@@ -1,5 +1,6 @@
 ghost use Rattle.std.specs.Prelude.{◌≡◌, None, ◌^◌, ◌<◌, ◌≤◌, IfErr, IfOk, OnOk, Some, if◌then◌else◌, length, map, option_map};
-ghost use Rattle.src_parser.specs.Prelude.{limits, ReadsTo, token_kinds, Wrong, among, phase_of};
+ghost use Rattle.gr_base.specs.Prelude.{IfFault};
+ghost use Rattle.src_parser.specs.Prelude.{fail_of, limits, ReadsTo, token_kinds, Wrong, among, phase_of};
 ghost use Rattle.src_parser.specs.Readers.{Stops};
 ghost use Rattle.procs_parser.specs.FileGrammar.{SpellsFile};
 ghost use Rattle.procs_parser.specs.FileRefusals.{ExplainsFile};
@@ -13,12 +14,12 @@ use crate::heads::name_next;
 use crate::languages::ProcFiles;
 use crate::statements::read_statement;
 use crate::states::{CallPhase, FileAdvance, Front, HeadPhase, Mode, ParserState, Start};
-use gr_base::Memory;
+use gr_base::{Fail, Memory};
 use src_lexer::{Kind, Token};
 use src_parser::putting::put;
 use src_parser::statements::complete;
 use src_parser::states::{Blocks, Phase};
-use src_parser::{ParseError, TextError, TokenReader, read_text, read_tree};
+use src_parser::{ParseError, ParseFault, TextFault, TokenReader, read_text, read_tree};
 use src_procs::{PStmt, ProcFile, is_hidden};
 use std::alloc::Global;
 use std::mem;
@@ -151,13 +152,17 @@ fn conclude(alloc: Global, state: ParserState) -> Result<Option<ProcFile>, Memor
 }
 
 // Reads tokens one by one.
-fn read_tokens(alloc: Global, state: &mut ParserState, tokens: &[Token]) -> Result<(), ParseError>
+fn read_tokens(
+    alloc: Global,
+    state: &mut ParserState,
+    tokens: &[Token],
+) -> Result<(), Fail<ParseFault>>
     ensures leads { OnOk result (ReadsTo taken (state_of state.old) tokens.now (state_of state.new)) }
-    ensures stops { IfErr result (λ error. Stops taken (state_of state.old) tokens.now error) }
+    ensures stops { IfErr result (IfFault (Stops taken (state_of state.old) tokens.now)) }
 {
     for token in tokens {
         let Ok(advance) = take(alloc, state, &token.kind) else {
-            return Err(ParseError::Memory);
+            return Err(Fail::Memory);
         };
         match advance {
             FileAdvance::Goes => {}
@@ -165,8 +170,8 @@ fn read_tokens(alloc: Global, state: &mut ParserState, tokens: &[Token]) -> Resu
                 let start = Start::Naming(head, HeadPhase::Opening);
                 put(state, ParserState::Before(start));
             }
-            FileAdvance::Wrong => return Err(ParseError::Unexpected(token.start)),
-            FileAdvance::TooMuch => return Err(ParseError::TooDeep(token.start)),
+            FileAdvance::Wrong => return Err(Fail::Fault(ParseFault::Unexpected(token.start))),
+            FileAdvance::TooMuch => return Err(Fail::Fault(ParseFault::TooDeep(token.start))),
         }
     }
     Ok(())
@@ -201,14 +206,14 @@ impl TokenReader for FileReader {
         }
     }
 
-    fn read(&mut self, alloc: Global, tokens: &[Token]) -> Result<(), ParseError> {
+    fn read(&mut self, alloc: Global, tokens: &[Token]) -> Result<(), Fail<ParseFault>> {
         read_tokens(alloc, &mut self.state, tokens)
     }
 
-    fn finish(self, alloc: Global) -> Result<ProcFile, ParseError> {
+    fn finish(self, alloc: Global) -> Result<ProcFile, Fail<ParseFault>> {
         match conclude(alloc, self.state)? {
             Some(file) => Ok(file),
-            None => Err(ParseError::EndOfText),
+            None => Err(Fail::Fault(ParseFault::EndOfText)),
         }
     }
 }
@@ -225,20 +230,21 @@ impl TokenReader for FileReader {
 pub fn parse_procs(alloc: Global, tokens: &[Token]) -> Result<ProcFile, ParseError>
     ensures parsed { IfOk result (λ f. SpellsFile limits (token_kinds tokens.now) (file_of f)) }
     ensures plain { IfOk result (λ f. ArePlain f.decls.items) }
-    ensures refused { IfErr result (λ error. ExplainsFile error tokens.now) }
+    ensures refused { IfErr result (λ error. IfFault (λ fault. ExplainsFile fault tokens.now) (fail_of error)) }
 {
-    read_tree::<FileReader>(alloc, tokens)
+    let file = read_tree::<FileReader>(alloc, tokens)?;
+    Ok(file)
 }
 
-/// The file with procedures of a text of at most 1,048,576 bytes, or the text's first error. The tokens are read some at
-/// a time. `Memory` says nothing about the text.
+/// The file with procedures of a text of at most 1,048,576 bytes, or the text's first fault. The tokens are read some at
+/// a time.
 ///
 /// No declared name of a file begins with `__`, as `inline` of `src_procs` requires.
-pub fn read_file(alloc: Global, text: &[u8]) -> Result<ProcFile, TextError>
+pub fn read_file(alloc: Global, text: &[u8]) -> Result<ProcFile, Fail<TextFault>>
     requires { length text.now ≤ 2 ^ 20 }
     ensures spelled { IfOk result (λ f. SpellsFileText text.now (file_of f)) }
     ensures plain { IfOk result (λ f. ArePlain f.decls.items) }
-    ensures refused { IfErr result (λ error. ExplainsFileText error text.now) }
+    ensures refused { IfErr result (IfFault (λ fault. ExplainsFileText fault text.now)) }
 {
     read_text::<FileReader>(alloc, text)
 }

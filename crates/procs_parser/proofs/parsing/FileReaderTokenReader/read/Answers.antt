@@ -1,5 +1,6 @@
 use Rattle.std.proofs.Common.{[]}
 use Rattle.std.proofs.lemmas.Result.{on_ok_weaker, IfErr-weaker}
+use Rattle.gr_base.proofs.Fails.{if_weaker}
 use Rattle.src_parser.proofs.SeveralTokens.{reads_both}
 use Rattle.procs_parser.specs.Prelude.{Between, taken, state_of}
 use Rattle.procs_parser.proofs.FileLaws.{stops_explained}
@@ -14,6 +15,6 @@ returns-clause-read c =
 pub returns-clause-refused : goal.returns-clause-refused
 returns-clause-refused c =
     IfErr-weaker c.read_tokens.result _ _
-    (λ error stops before after read. stops_explained before c.args.tokens.now after (state_of c.args.self.now.state) error
-    read stops)
+    (λ fail. if_weaker fail (λ fault stops before after read.
+    stops_explained before c.args.tokens.now after (state_of c.args.self.now.state) fault read stops))
     c.read_tokens.ensures.stops
