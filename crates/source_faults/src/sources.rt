@@ -10,11 +10,12 @@ use crate::unexpected::explain_tokens;
 use bank_alloc::{PlaceError, banks};
 use fault_texts::{Source, Words};
 use flow_types::{TypeError, Typed, type_program};
+use gr_base::Fail;
 use gr_word::Label;
 use procs_parser::read_file;
 use resident_alloc::resident_plan;
-use src_lexer::{LexError, lex};
-use src_parser::{ParseError, TextError, read_source};
+use src_lexer::{LexFault, lex};
+use src_parser::{ParseFault, TextFault, read_source};
 use src_procs::{InlineError, inline_owned};
 use src_tree::Program;
 use std::alloc::Global;
@@ -45,6 +46,7 @@ pub fn explain_source(
     };
     match found {
         Ok(typed) => explain_room(alloc, name, &typed, room, out),
+        Err(Fault::Memory) => out.starve(),
         Err(Fault::Piece(fault)) => explain_piece(alloc, Source { name, text }, fault, out),
         Err(fault) => match lex(alloc, text) {
             Ok(all) => {
@@ -56,20 +58,22 @@ pub fn explain_source(
     }
 }
 
-// The first fault of a source: of its pieces, of its tokens, of its calls, or of its program.
+// The first fault of a source: of its pieces, of its tokens, of its calls, or of its program; or memory ran out.
 #[derive(Drop)]
 enum Fault {
-    Piece(LexError),
-    Token(ParseError),
+    Piece(LexFault),
+    Token(ParseFault),
     Call(InlineError),
     Program(TypeError),
+    Memory,
 }
 
-impl From<TextError> for Fault {
-    fn from(error: TextError) -> Fault {
-        match error {
-            TextError::Pieces(fault) => Fault::Piece(fault),
-            TextError::Tokens(fault) => Fault::Token(fault),
+impl From<Fail<TextFault>> for Fault {
+    fn from(fail: Fail<TextFault>) -> Fault {
+        match fail {
+            Fail::Fault(TextFault::Pieces(fault)) => Fault::Piece(fault),
+            Fail::Fault(TextFault::Tokens(fault)) => Fault::Token(fault),
+            Fail::Memory => Fault::Memory,
         }
     }
 }
@@ -108,29 +112,28 @@ fn explain_fault(
     out: &mut Words,
 ) {
     match fault {
-        Fault::Piece(_) => {}
+        Fault::Piece(_) | Fault::Memory => {}
         Fault::Token(fault) => explain_tokens(alloc, tokens, has_procs, fault, out),
         Fault::Call(fault) => explain_calls_fault(alloc, tokens, fault, out),
         Fault::Program(fault) => explain_typing(alloc, tokens, fault, out),
     }
 }
 
-fn explain_piece(alloc: Global, source: Source<'_>, fault: LexError, out: &mut Words) {
+fn explain_piece(alloc: Global, source: Source<'_>, fault: LexFault, out: &mut Words) {
     match fault {
-        LexError::BadByte(at) => explain_byte(alloc, source, at as usize, out),
-        LexError::NumberTooBig(at) => source.put(
+        LexFault::BadByte(at) => explain_byte(alloc, source, at as usize, out),
+        LexFault::NumberTooBig(at) => source.put(
             at as usize,
             "the number is too big",
             "The greatest number is 9223372036854775807; the least is written `-9223372036854775807 - 1`.",
             out,
         ),
-        LexError::NameTooLong(at) => source.put(
+        LexFault::NameTooLong(at) => source.put(
             at as usize,
             "the name is too long",
             "A name has at most 32 bytes.",
             out,
         ),
-        LexError::Memory => out.starve(),
     }
 }
 

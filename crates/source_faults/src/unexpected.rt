@@ -6,7 +6,7 @@ use crate::tokens::Tokens;
 use crate::wanted::Wanted;
 use fault_texts::{Nearest, Source, Words, is_word_of, piece, spot_at};
 use gr_base::Memory;
-use src_parser::ParseError;
+use src_parser::ParseFault;
 use std::alloc::Global;
 
 /// The words that begin a declaration, a statement or its second block.
@@ -27,15 +27,15 @@ pub(crate) fn explain_tokens(
     alloc: Global,
     tokens: Tokens<'_>,
     has_procs: bool,
-    fault: ParseError,
+    fault: ParseFault,
     out: &mut Words,
 ) {
     let Tokens { name, text, .. } = tokens;
     let parsed = Parsed { tokens, has_procs };
     let put = match fault {
-        ParseError::Unexpected(start) => parsed.put_unexpected(alloc, start, out),
-        ParseError::EndOfText => parsed.put_end(alloc, out),
-        ParseError::TooDeep(start) => {
+        ParseFault::Unexpected(start) => parsed.put_unexpected(alloc, start, out),
+        ParseFault::EndOfText => parsed.put_end(alloc, out),
+        ParseFault::TooDeep(start) => {
             Source { name, text }.put(
                 start as usize,
                 "this is nested too deeply",
@@ -45,7 +45,6 @@ pub(crate) fn explain_tokens(
             );
             Ok(())
         }
-        ParseError::Memory => Err(Memory),
     };
     out.starve_on(put);
 }
