@@ -1,37 +1,35 @@
 -- From the error of a text to its first fault.
-use Rattle.std.proofs.Common.{◌≡◌, inl, inr, Bool, true, false, ℕ, List, Option, Some, None, IfSome, sym, ap, ◌∙◌}
+use Rattle.std.proofs.Common.{◌≡◌, Bool, true, false, ℕ, List, Option, Some, None, IfSome, sym}
 use Rattle.src_lexer.specs.declared.tokens.Token.{Token}
 use Rattle.src_parser.specs.Prelude.{ExplainsTokens, ExplainsText, ExplainsTextBy}
-use Rattle.src_parser.specs.declared.errors.ParseError.{ParseError}
-use Rattle.src_parser.specs.declared.errors.TextError.{TextError}
+use Rattle.src_parser.specs.declared.errors.ParseFault.{ParseFault}
+use Rattle.src_parser.specs.declared.errors.TextFault.{TextFault}
 use Rattle.procs_parser.specs.Prelude.{ExplainsFile, ExplainsFileText, SpellsFileText}
 use Rattle.src_procs.specs.Prelude.{File, ExplainsInlining}
 use Rattle.src_procs.specs.declared.errors.InlineError.{InlineError}
 use Rattle.call_replies.specs.declared.source_faults.SourceFault.{SourceFault}
 use Rattle.call_steps.specs.Prelude.{IsFirstSourceFault, InTokens, IsTokensFault, NoFile, InCalls, token_fault, text_fault, shown_call_fault}
 use Rattle.call_steps.proofs.Saying.{piece-first}
-use Rattle.src_parser.specs.declared.errors.TextError.TheVariants as text
+use Rattle.src_parser.specs.declared.errors.TextFault.TheVariants as text
 
 -- by what an error says about tokens
-text-first : (procs : Bool) (Explains : ParseError → List Token → Type 0)
-    → ((e : ParseError) (tokens : List Token) (fault : SourceFault) → Explains e tokens → token_fault e ≡ Some fault
+text-first : (procs : Bool) (Explains : ParseFault → List Token → Type 0)
+    → ((e : ParseFault) (tokens : List Token) (fault : SourceFault) → Explains e tokens → token_fault e ≡ Some fault
     → IsTokensFault procs tokens fault)
-    → (bytes : List ℕ) (e : TextError) (shown : Option SourceFault) → shown ≡ text_fault e
+    → (bytes : List ℕ) (e : TextFault) (shown : Option SourceFault) → shown ≡ text_fault e
     → ExplainsTextBy Explains e bytes → IfSome shown (IsFirstSourceFault procs bytes)
 text-first procs Explains first bytes (text.Pieces e) shown is why = piece-first procs bytes e shown is why
 text-first procs Explains first bytes (text.Tokens e) None is why = tt
-text-first procs Explains first bytes (text.Tokens e) (Some fault) is why = elim why [
-  | inl none ↦ absurd (let f : ◌≡◌ {A = Option SourceFault} (Some fault) None = is ∙ ap token_fault none in cc)
-  | inr has ↦ InTokens has.tokens has.split (first e has.tokens fault has.is (sym is))
-]
+text-first procs Explains first bytes (text.Tokens e) (Some fault) is has =
+    InTokens has.tokens has.split (first e has.tokens fault has.is (sym is))
 
 -- of a text without procedures
-pub plain-first : (bytes : List ℕ) (e : TextError) (shown : Option SourceFault) → shown ≡ text_fault e
+pub plain-first : (bytes : List ℕ) (e : TextFault) (shown : Option SourceFault) → shown ≡ text_fault e
     → ExplainsText e bytes → IfSome shown (IsFirstSourceFault false bytes)
 plain-first = text-first false ExplainsTokens (λ e tokens fault explains is. (e, explains, is))
 
 -- of a text with procedures
-pub file-first : (bytes : List ℕ) (e : TextError) (shown : Option SourceFault) → shown ≡ text_fault e
+pub file-first : (bytes : List ℕ) (e : TextFault) (shown : Option SourceFault) → shown ≡ text_fault e
     → ExplainsFileText e bytes → IfSome shown (IsFirstSourceFault true bytes)
 file-first = text-first true ExplainsFile (λ e tokens fault explains is. NoFile e explains is)
 

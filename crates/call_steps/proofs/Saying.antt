@@ -7,7 +7,7 @@ use Rattle.object_file.specs.Prelude.{IsFirstObjectFault}
 use Rattle.lt_assembler.specs.Prelude.{IsFirstTextFault}
 use Rattle.lt_assembler.specs.declared.errors.AsmError.{AsmError}
 use Rattle.src_lexer.specs.Prelude.{Splits}
-use Rattle.src_lexer.specs.declared.errors.LexError.{LexError}
+use Rattle.src_lexer.specs.declared.errors.LexFault.{LexFault}
 use Rattle.src_tree.specs.Prelude.{Source}
 use Rattle.flow_types.specs.Prelude.{ExplainsProgram}
 use Rattle.src_tree.specs.declared.faults.TypeError.{TypeError}
@@ -21,7 +21,6 @@ use Rattle.call_replies.specs.Prelude.{Said}
 use Rattle.processor.specs.Prelude.{NoHalt}
 use Rattle.object_file.specs.declared.errors.DecodeError.TheVariants as object
 use Rattle.lt_assembler.specs.declared.errors.AsmError.TheVariants as text
-use Rattle.src_lexer.specs.declared.errors.LexError.TheVariants as piece
 use Rattle.run_data.specs.declared.errors.InputError.TheVariants as input
 
 -- the line about bytes that don't encode an object names their first fault
@@ -39,13 +38,10 @@ no-source procs text None said first says next = inl says
 no-source procs text (Some fault) said first says next = inr (Err fault, BadSource fault, first, refl, says)
 
 -- the faults of a text's pieces, of its tokens and of its program
-pub piece-first : (procs : Bool) (text : List ℕ) (e : LexError) (shown : Option SourceFault) → shown ≡ piece_fault e
-    → (e ≡ piece.Memory) ⊎ Splits 0 text (Err e) → IfSome shown (IsFirstSourceFault procs text)
+pub piece-first : (procs : Bool) (text : List ℕ) (e : LexFault) (shown : Option SourceFault) → shown ≡ piece_fault e
+    → Splits 0 text (Err e) → IfSome shown (IsFirstSourceFault procs text)
 piece-first procs text e None is why = tt
-piece-first procs text e (Some fault) is why = elim why [
-  | inl none ↦ absurd (let f : ◌≡◌ {A = Option SourceFault} (Some fault) None = is ∙ ap piece_fault none in cc)
-  | inr splits ↦ InPieces e splits (sym is)
-]
+piece-first procs text e (Some fault) is splits = InPieces e splits (sym is)
 
 pub program-first : (procs : Bool) (text : List ℕ) (p : Source) (e : TypeError) (shown : Option SourceFault)
     → shown ≡ program_fault e → Spells procs text p → ExplainsProgram e p

@@ -3,13 +3,13 @@
 use Rattle.std.specs.Prelude.{◌≡◌, ℕ, Bool, true, false, List, Option, Some, None, Ok, Err}
 use Rattle.src_lexer.specs.Splits.{Splits}
 use Rattle.src_lexer.specs.declared.tokens.Token.{Token}
-use Rattle.src_lexer.specs.declared.errors.LexError.{LexError}
+use Rattle.src_lexer.specs.declared.errors.LexFault.{LexFault}
 use Rattle.src_parser.specs.Grammar.{limits, Sentence}
 use Rattle.src_parser.specs.Refusals.{token_kinds}
 use Rattle.src_parser.specs.Source.{SpellsSource}
 use Rattle.src_parser.specs.Explained.{ExplainsTokens}
-use Rattle.src_parser.specs.declared.errors.ParseError.{ParseError}
-use Rattle.src_parser.specs.declared.errors.TextError.{TextError}
+use Rattle.src_parser.specs.declared.errors.ParseFault.{ParseFault}
+use Rattle.src_parser.specs.declared.errors.TextFault.{TextFault}
 use Rattle.procs_parser.specs.FileGrammar.{SpellsFile}
 use Rattle.procs_parser.specs.FileRefusals.{ExplainsFile}
 use Rattle.src_procs.specs.Trees.{File}
@@ -23,9 +23,9 @@ use Rattle.src_tree.specs.Limits.{IsWithinLimits}
 use Rattle.flow_types.specs.Refusals.{ExplainsProgram}
 use Rattle.src_tree.specs.declared.faults.TypeError.{TypeError}
 use Rattle.call_replies.specs.declared.source_faults.SourceFault.{SourceFault}
-use Rattle.src_lexer.specs.declared.errors.LexError.TheVariants as piece
-use Rattle.src_parser.specs.declared.errors.ParseError.TheVariants as token
-use Rattle.src_parser.specs.declared.errors.TextError.TheVariants as text
+use Rattle.src_lexer.specs.declared.errors.LexFault.TheVariants as piece
+use Rattle.src_parser.specs.declared.errors.ParseFault.TheVariants as token
+use Rattle.src_parser.specs.declared.errors.TextFault.TheVariants as text
 use Rattle.src_procs.specs.declared.errors.InlineError.TheVariants as calls
 use Rattle.src_tree.specs.declared.faults.TypeError.TheVariants as program
 use Rattle.call_replies.specs.declared.source_faults.SourceFault.TheVariants as fault
@@ -64,21 +64,18 @@ pub record SpellsTyped (procs : Bool) (text : List ℕ) (p : Source) : Type 0 wh
   pub typed : IsTyped p
   pub within : IsWithinLimits p
 
--- the fault of a text's pieces, of its tokens, of its calls and of its program as it is shown; running out of memory
--- isn't one
-abbrev pub piece_fault : LexError → Option SourceFault
+-- the fault of a text's pieces, of its tokens, of its calls and of its program as it is shown; want of memory is none
+abbrev pub piece_fault : LexFault → Option SourceFault
 piece_fault (piece.BadByte at) = Some (fault.Byte at)
 piece_fault (piece.NumberTooBig at) = Some (fault.Number at)
 piece_fault (piece.NameTooLong at) = Some (fault.Name at)
-piece_fault piece.Memory = None
 
-abbrev pub token_fault : ParseError → Option SourceFault
+abbrev pub token_fault : ParseFault → Option SourceFault
 token_fault (token.Unexpected at) = Some (fault.Unexpected at)
 token_fault token.EndOfText = Some fault.End
 token_fault (token.TooDeep at) = Some (fault.Deep at)
-token_fault token.Memory = None
 
-abbrev pub text_fault : TextError → Option SourceFault
+abbrev pub text_fault : TextFault → Option SourceFault
 text_fault (text.Pieces e) = piece_fault e
 text_fault (text.Tokens e) = token_fault e
 
@@ -105,18 +102,18 @@ program_fault program.Memory = None
 -- The first fault of tokens: where they cease to begin a program; or a file with procedures, and where they are such a
 -- file, the first fault of its calls.
 pub data IsFileFault (tokens : List Token) (shown : SourceFault) : Type 0 where
-  NoFile : (e : ParseError) → ExplainsFile e tokens → token_fault e ≡ Some shown → IsFileFault tokens shown
+  NoFile : (e : ParseFault) → ExplainsFile e tokens → token_fault e ≡ Some shown → IsFileFault tokens shown
   InCalls : (f : File) (e : InlineError) → SpellsFile limits (token_kinds tokens) f → ExplainsInlining e f
       → shown_call_fault e ≡ Some shown → IsFileFault tokens shown
 
 abbrev pub IsTokensFault : Bool → List Token → SourceFault → Type 0
-IsTokensFault false tokens shown = (e : ParseError) × ExplainsTokens e tokens × (token_fault e ≡ Some shown)
+IsTokensFault false tokens shown = (e : ParseFault) × ExplainsTokens e tokens × (token_fault e ≡ Some shown)
 IsTokensFault true tokens shown = IsFileFault tokens shown
 
 -- The first fault of a text: that of its pieces; where they are tokens, that of the tokens; where these give a program,
 -- that of its types and limits.
 pub data IsFirstSourceFault (procs : Bool) (text : List ℕ) (shown : SourceFault) : Type 0 where
-  InPieces : (e : LexError) → Splits 0 text (Err e) → piece_fault e ≡ Some shown → IsFirstSourceFault procs text shown
+  InPieces : (e : LexFault) → Splits 0 text (Err e) → piece_fault e ≡ Some shown → IsFirstSourceFault procs text shown
   InTokens : (tokens : List Token) → Splits 0 text (Ok tokens) → IsTokensFault procs tokens shown
       → IsFirstSourceFault procs text shown
   InProgram : (p : Source) (e : TypeError) → Spells procs text p → ExplainsProgram e p → program_fault e ≡ Some shown

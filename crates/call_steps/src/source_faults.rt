@@ -3,23 +3,21 @@ ghost use Rattle.call_steps.specs.Sources.{shown_call_fault, program_fault, text
 
 use call_replies::source_faults::SourceFault;
 use flow_types::TypeError;
-use src_lexer::LexError;
-use src_parser::{ParseError, TextError};
+use src_lexer::LexFault;
+use src_parser::{ParseFault, TextFault};
 use src_procs::InlineError;
 
-/// The fault of a text as it is shown; running out of memory isn't one.
-pub(crate) fn text_fault(fault: TextError) -> Option<SourceFault>
+/// The fault of a text as it is shown.
+pub(crate) fn text_fault(fault: TextFault) -> Option<SourceFault>
     ensures { result ≡ text_fault fault }
 {
     match fault {
-        TextError::Pieces(LexError::BadByte(at)) => Some(SourceFault::Byte(at)),
-        TextError::Pieces(LexError::NumberTooBig(at)) => Some(SourceFault::Number(at)),
-        TextError::Pieces(LexError::NameTooLong(at)) => Some(SourceFault::Name(at)),
-        TextError::Pieces(LexError::Memory) => None,
-        TextError::Tokens(ParseError::Unexpected(at)) => Some(SourceFault::Unexpected(at)),
-        TextError::Tokens(ParseError::EndOfText) => Some(SourceFault::End),
-        TextError::Tokens(ParseError::TooDeep(at)) => Some(SourceFault::Deep(at)),
-        TextError::Tokens(ParseError::Memory) => None,
+        TextFault::Pieces(LexFault::BadByte(at)) => Some(SourceFault::Byte(at)),
+        TextFault::Pieces(LexFault::NumberTooBig(at)) => Some(SourceFault::Number(at)),
+        TextFault::Pieces(LexFault::NameTooLong(at)) => Some(SourceFault::Name(at)),
+        TextFault::Tokens(ParseFault::Unexpected(at)) => Some(SourceFault::Unexpected(at)),
+        TextFault::Tokens(ParseFault::EndOfText) => Some(SourceFault::End),
+        TextFault::Tokens(ParseFault::TooDeep(at)) => Some(SourceFault::Deep(at)),
     }
 }
 

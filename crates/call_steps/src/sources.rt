@@ -14,6 +14,7 @@ use crate::source_faults::{program_fault, shown_call_fault, text_fault};
 use call_replies::replies::{Reply, Verdict};
 use call_replies::source_faults::SourceFault;
 use flow_types::{Typed, type_program};
+use gr_base::Fail;
 use gr_outside::Shelf;
 use procs_parser::read_file;
 use src_parser::read_source;
@@ -78,7 +79,8 @@ fn parsed(alloc: Global, text: &[u8]) -> Result<Program, Option<SourceFault>>
 {
     match read_source(alloc, text) {
         Ok(program) => Ok(program),
-        Err(fault) => Err(text_fault(fault)),
+        Err(Fail::Fault(fault)) => Err(text_fault(fault)),
+        Err(Fail::Memory) => Err(None),
     }
 }
 
@@ -93,7 +95,8 @@ fn inlined(alloc: Global, text: &[u8]) -> Result<Program, Option<SourceFault>>
             Ok(program) => Ok(program),
             Err(fault) => Err(shown_call_fault(fault)),
         },
-        Err(fault) => Err(text_fault(fault)),
+        Err(Fail::Fault(fault)) => Err(text_fault(fault)),
+        Err(Fail::Memory) => Err(None),
     }
 }
 

@@ -20,6 +20,7 @@ returns-in-Err-inline_owned-clause-refused c =
     call-first c.args.text.now (file_of c.in-Ok.file) c.in-Err-inline_owned.fault c.shown_call_fault.result
     c.shown_call_fault.ensures c.in-Ok.ensures.spelled c.in-Err-inline_owned.ensures.refused
 
-pub returns-in-Err-clause-refused : goal.returns-in-Err-clause-refused
-returns-in-Err-clause-refused c =
-    file-first c.args.text.now c.in-Err.fault c.text_fault.result c.text_fault.ensures c.in-Err.ensures.refused
+pub returns-in-Err-Fault-clause-refused : goal.returns-in-Err-Fault-clause-refused
+returns-in-Err-Fault-clause-refused c =
+    file-first c.args.text.now c.in-Err-Fault.fault c.text_fault.result c.text_fault.ensures
+    (rw c.in-Err-Fault.field-0-is at c.in-Err-Fault.ensures.refused)
