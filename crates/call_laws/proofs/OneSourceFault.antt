@@ -1,12 +1,12 @@
 -- A source text has at most one first fault, and none if it spells a program that is well typed and within the limits.
-use Rattle.std.proofs.Common.{◌≡◌, ◌≢◌, ◌∙◌, ℕ, Bool, true, false, List, ◌∷◌, [], ◌++◌, Option, Some, None, Result, Ok, Err, refl, sym, ap, subst}
+use Rattle.std.proofs.Common.{◌≡◌, ◌∙◌, ℕ, Bool, true, false, List, ◌∷◌, [], ◌++◌, Option, Some, None, Result, Ok, Err, refl, sym, ap, subst}
 use Rattle.src_lexer.specs.declared.tokens.Kind.{Kind}
 use Rattle.src_lexer.specs.declared.tokens.Token.{Token}
-use Rattle.src_lexer.specs.declared.errors.LexError.{LexError}
+use Rattle.src_lexer.specs.declared.errors.LexFault.{LexFault}
 use Rattle.src_lexer.specs.Prelude.{Lexed, Splits}
 use Rattle.src_lexer.proofs.OneReading.{one_reading, same_tokens}
 use Rattle.src_parser.specs.Prelude.{Limits, limits, Sentence, token_kinds, Begins, Stray, Deeper, Cut, ExplainsTokens}
-use Rattle.src_parser.specs.declared.errors.ParseError.{ParseError}
+use Rattle.src_parser.specs.declared.errors.ParseFault.{ParseFault}
 use Rattle.src_parser.proofs.OneProgram.{one_program}
 use Rattle.src_parser.proofs.OneRefusal.{one_stray, one_deeper, stray_or_deeper, stray_or_cut, deeper_or_cut}
 use Rattle.src_parser.proofs.Places.{stray, deeper, cut}
@@ -26,7 +26,7 @@ use Rattle.flow_types.specs.Prelude.{ExplainsProgram}
 use Rattle.call_replies.specs.declared.source_faults.SourceFault.{SourceFault}
 use Rattle.call_laws.specs.Prelude.{OneSource}
 use Rattle.call_steps.specs.Prelude.{IsRight, WhichSource, AreProgram, Spells, SpellsTyped, IsFileFault, NoFile, InCalls, IsTokensFault, IsFirstSourceFault, InPieces, InTokens, InProgram, piece_fault, token_fault, shown_call_fault, program_fault}
-use Rattle.src_parser.specs.declared.errors.ParseError.TheVariants as error
+use Rattle.src_parser.specs.declared.errors.ParseFault.TheVariants as error
 use Rattle.src_procs.specs.declared.errors.InlineError.TheVariants as calls
 use Rattle.src_tree.specs.declared.faults.TypeError.TheVariants as program
 
@@ -38,10 +38,10 @@ none-not {A = A} x a e f = absurd (let g : ◌≡◌ {A = Option A} None (Some a
 
 -- ---- what a text splits into, and what tokens are
 
-err-same : (a b : LexError) → ◌≡◌ {A = Lexed} (Err a) (Err b) → a ≡ b
+err-same : (a b : LexFault) → ◌≡◌ {A = Lexed} (Err a) (Err b) → a ≡ b
 err-same a b e = cc
 
-split-or-not : {X : Type 0} (text : List ℕ) (tokens : List Token) (e : LexError) → Splits 0 text (Ok tokens)
+split-or-not : {X : Type 0} (text : List ℕ) (tokens : List Token) (e : LexFault) → Splits 0 text (Ok tokens)
     → Splits 0 text (Err e) → X
 split-or-not text tokens e split fails =
     absurd (let f : ◌≡◌ {A = Lexed} (Ok tokens) (Err e) = one_reading 0 text (Ok tokens) (Err e) split fails in cc)
@@ -71,62 +71,54 @@ split-of true text p s = record { tokens = s.tokens; split = s.split; program = 
 
 -- ---- errors of tokens, by any grammar
 
-abbrev ExplainsBy : {P : Type 0} → (Limits → List Kind → P → Type 0) → ParseError → List Token → Type 0
+abbrev ExplainsBy : {P : Type 0} → (Limits → List Kind → P → Type 0) → ParseFault → List Token → Type 0
 ExplainsBy S (error.Unexpected at) tokens = Stray S tokens at
 ExplainsBy S error.EndOfText tokens = Cut S tokens
 ExplainsBy S (error.TooDeep at) tokens = Deeper S tokens at
-ExplainsBy S error.Memory tokens = Unit {0}
 
-of-tokens : (e : ParseError) (tokens : List Token) → ExplainsTokens e tokens → ExplainsBy Sentence e tokens
+of-tokens : (e : ParseFault) (tokens : List Token) → ExplainsTokens e tokens → ExplainsBy Sentence e tokens
 of-tokens (error.Unexpected at) tokens h = stray h
 of-tokens error.EndOfText tokens h = cut h
 of-tokens (error.TooDeep at) tokens h = deeper h
-of-tokens error.Memory tokens h = tt
 
-of-file : (e : ParseError) (tokens : List Token) → ExplainsFile e tokens → ExplainsBy SpellsFile e tokens
-of-file error.Memory tokens h = tt
-of-file other tokens h = h
+of-file : (e : ParseFault) (tokens : List Token) → ExplainsFile e tokens → ExplainsBy SpellsFile e tokens
+of-file (error.Unexpected at) tokens h = h
+of-file error.EndOfText tokens h = h
+of-file (error.TooDeep at) tokens h = h
 
 module _ {P : Type 0} (S : Limits → List Kind → P → Type 0) (tokens : List Token) where
-  error-once : (a b : ParseError) → ExplainsBy S a tokens → ExplainsBy S b tokens → a ≢ error.Memory
-      → b ≢ error.Memory → a ≡ b
-  error-once (error.Unexpected at) (error.Unexpected to) s t p q = ap error.Unexpected (one_stray s t)
-  error-once (error.Unexpected at) (error.TooDeep to) s t p q = absurd (stray_or_deeper s t)
-  error-once (error.Unexpected at) error.EndOfText s t p q = absurd (stray_or_cut s t)
-  error-once (error.TooDeep at) (error.Unexpected to) s t p q = absurd (stray_or_deeper t s)
-  error-once (error.TooDeep at) (error.TooDeep to) s t p q = ap error.TooDeep (one_deeper s t)
-  error-once (error.TooDeep at) error.EndOfText s t p q = absurd (deeper_or_cut s t)
-  error-once error.EndOfText (error.Unexpected to) s t p q = absurd (stray_or_cut t s)
-  error-once error.EndOfText (error.TooDeep to) s t p q = absurd (deeper_or_cut t s)
-  error-once error.EndOfText error.EndOfText s t p q = refl
-  error-once error.Memory b s t p q = absurd (p refl)
-  error-once a error.Memory s t p q = absurd (q refl)
+  error-once : (a b : ParseFault) → ExplainsBy S a tokens → ExplainsBy S b tokens → a ≡ b
+  error-once (error.Unexpected at) (error.Unexpected to) s t = ap error.Unexpected (one_stray s t)
+  error-once (error.Unexpected at) (error.TooDeep to) s t = absurd (stray_or_deeper s t)
+  error-once (error.Unexpected at) error.EndOfText s t = absurd (stray_or_cut s t)
+  error-once (error.TooDeep at) (error.Unexpected to) s t = absurd (stray_or_deeper t s)
+  error-once (error.TooDeep at) (error.TooDeep to) s t = ap error.TooDeep (one_deeper s t)
+  error-once (error.TooDeep at) error.EndOfText s t = absurd (deeper_or_cut s t)
+  error-once error.EndOfText (error.Unexpected to) s t = absurd (stray_or_cut t s)
+  error-once error.EndOfText (error.TooDeep to) s t = absurd (deeper_or_cut t s)
+  error-once error.EndOfText error.EndOfText s t = refl
 
   -- no error is true of a sentence
   no-error : ((before after : List Token) (token : Token) (tree : P) → tokens ≡ before ++ token ∷ after
       → S limits (token_kinds tokens) tree → Begins S limits (token_kinds before ++ token.kind ∷ []))
-      → (tree : P) → S limits (token_kinds tokens) tree → (e : ParseError) → ExplainsBy S e tokens → e ≢ error.Memory → ⊥
-  no-error begins tree s (error.Unexpected at) h told =
+      → (tree : P) → S limits (token_kinds tokens) tree → (e : ParseFault) → ExplainsBy S e tokens → ⊥
+  no-error begins tree s (error.Unexpected at) h =
       h.none limits (begins h.before h.after h.token tree h.split s)
-  no-error begins tree s error.EndOfText h told = h.none tree s
-  no-error begins tree s (error.TooDeep at) h told = h.none (begins h.before h.after h.token tree h.split s)
-  no-error begins tree s error.Memory h told = told refl
+  no-error begins tree s error.EndOfText h = h.none tree s
+  no-error begins tree s (error.TooDeep at) h = h.none (begins h.before h.after h.token tree h.split s)
 
-is-told : (e : ParseError) (shown : SourceFault) → token_fault e ≡ Some shown → e ≢ error.Memory
-is-told e shown is memory = none-not (token_fault e) shown (ap token_fault memory) is
-
-no-refusal : (tokens : List Token) (p : Source) (e : ParseError) (shown : SourceFault)
+no-refusal : (tokens : List Token) (p : Source) (e : ParseFault) (shown : SourceFault)
     → Sentence limits (token_kinds tokens) p → ExplainsTokens e tokens → token_fault e ≡ Some shown → ⊥
 no-refusal tokens p e shown s h is =
     no-error Sentence tokens (λ before after token tree split t.
-    next_begins program_laws tokens before after token tree split t) p s e (of-tokens e tokens h) (is-told e shown is)
+    next_begins program_laws tokens before after token tree split t) p s e (of-tokens e tokens h)
 
 -- and none of a file with procedures
-pub no-file-refusal : (tokens : List Token) (f : File) (e : ParseError) → SpellsFile limits (token_kinds tokens) f
-    → ExplainsFile e tokens → e ≢ error.Memory → ⊥
-no-file-refusal tokens f e s h told =
+pub no-file-refusal : (tokens : List Token) (f : File) (e : ParseFault) → SpellsFile limits (token_kinds tokens) f
+    → ExplainsFile e tokens → ⊥
+no-file-refusal tokens f e s h =
     no-error SpellsFile tokens (λ before after token tree split t.
-    next_begins file_laws tokens before after token tree split t) f s e (of-file e tokens h) told
+    next_begins file_laws tokens before after token tree split t) f s e (of-file e tokens h)
 
 -- ---- errors of calls and of programs
 
@@ -144,13 +136,12 @@ program-is e p shown h is = caused p e h
 
 file-fault-once : (tokens : List Token) (a b : SourceFault) → IsFileFault tokens a → IsFileFault tokens b → a ≡ b
 file-fault-once tokens a b (NoFile e h is) (NoFile e' h' is') =
-    let same = error-once SpellsFile tokens e e' (of-file e tokens h) (of-file e' tokens h') (is-told e a is)
-    (is-told e' b is') in
+    let same = error-once SpellsFile tokens e e' (of-file e tokens h) (of-file e' tokens h') in
     some-once (token_fault e) a b is (ap token_fault same ∙ is')
 file-fault-once tokens a b (NoFile e h is) (InCalls f e' spells h' is') =
-    absurd (no-file-refusal tokens f e spells h (is-told e a is))
+    absurd (no-file-refusal tokens f e spells h)
 file-fault-once tokens a b (InCalls f e' spells h' is') (NoFile e h is) =
-    absurd (no-file-refusal tokens f e spells h (is-told e b is))
+    absurd (no-file-refusal tokens f e spells h)
 file-fault-once tokens a b (InCalls f e spells h is) (InCalls g e' spells' h' is') =
     let files = same-file tokens g f spells' spells in
     let same = one-cause f e e' (call-is e f a h is)
@@ -160,15 +151,14 @@ file-fault-once tokens a b (InCalls f e spells h is) (InCalls g e' spells' h' is
 tokens-fault-once : (procs : Bool) (tokens : List Token) (a b : SourceFault) → IsTokensFault procs tokens a
     → IsTokensFault procs tokens b → a ≡ b
 tokens-fault-once false tokens a b one other =
-    let same = error-once Sentence tokens one.0 other.0 (of-tokens one.0 tokens one.1) (of-tokens other.0 tokens other.1)
-    (is-told one.0 a one.2) (is-told other.0 b other.2) in
+    let same = error-once Sentence tokens one.0 other.0 (of-tokens one.0 tokens one.1) (of-tokens other.0 tokens other.1) in
     some-once (token_fault one.0) a b one.2 (ap token_fault same ∙ other.2)
 tokens-fault-once true tokens a b one other = file-fault-once tokens a b one other
 
 -- tokens that give a program have none
 file-fault-not : (tokens : List Token) (a : SourceFault) (p : Source) → IsFileFault tokens a → AreProgram true tokens p
     → ⊥
-file-fault-not tokens a p (NoFile e h is) made = no-file-refusal tokens made.file e made.spelled h (is-told e a is)
+file-fault-not tokens a p (NoFile e h is) made = no-file-refusal tokens made.file e made.spelled h
 file-fault-not tokens a p (InCalls f e spells h is) made =
     made.faultless e
     (subst (λ (x : File). IsFirstCallFault x e) (same-file tokens f made.file spells made.spelled) (call-is e f a h is))
@@ -181,7 +171,7 @@ tokens-fault-not true tokens a p fault made = file-fault-not tokens a p fault ma
 -- ---- the first fault of a text
 
 module _ (procs : Bool) (text : List ℕ) where
-  split-spells : {X : Type 0} (p : Source) (e : LexError) → Spells procs text p → Splits 0 text (Err e) → X
+  split-spells : {X : Type 0} (p : Source) (e : LexFault) → Spells procs text p → Splits 0 text (Err e) → X
   split-spells p e spells fails =
       let s = split-of procs text p spells in split-or-not text s.tokens e s.split fails
 

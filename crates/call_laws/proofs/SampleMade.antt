@@ -14,7 +14,7 @@ use Rattle.lt_checker.proofs.AcceptanceLaws.{refused_is_not_accepted}
 use Rattle.src_lexer.specs.declared.tokens.Token.{Token}
 use Rattle.src_lexer.proofs.OneReading.{same_tokens}
 use Rattle.src_parser.specs.Prelude.{ExplainsTokens, limits, Sentence, token_kinds}
-use Rattle.src_parser.specs.declared.errors.ParseError.{ParseError}
+use Rattle.src_parser.specs.declared.errors.ParseFault.{ParseFault}
 use Rattle.src_parser.proofs.OneProgram.{one_program, no_fault}
 use Rattle.src_parser.proofs.Places.{next_begins}
 use Rattle.src_tree.specs.Prelude.{Source, first_fault}
@@ -32,7 +32,7 @@ use Rattle.call_replies.specs.declared.replies.Verdict.TheVariants.{BadSource}
 use Rattle.call_replies.specs.Prelude.{Said, no_memory}
 use Rattle.call_laws.proofs.SampleProgram.{sample_typed, sample_within, sample_fits, sample_needs, resident_needs}
 use Rattle.call_laws.proofs.SampleText.{sample_spells}
-use Rattle.src_parser.specs.declared.errors.ParseError.TheVariants as token
+use Rattle.src_parser.specs.declared.errors.ParseFault.TheVariants as token
 use Rattle.src_tree.specs.declared.faults.TypeError.TheVariants as program
 use Rattle.compiled_objects.specs.declared.errors.CompileError.TheVariants as room
 
@@ -69,15 +69,13 @@ elsewhere = Writes [] [] Compiled
 not-elsewhere : (verdict : Verdict) → elsewhere ≡ Ends nothing_seen verdict → ⊥
 not-elsewhere verdict e = absurd (let f : ◌≡◌ {A = Work} (Writes [] [] Compiled) (Ends nothing_seen verdict) = e in cc)
 
-no-token_fault : (tokens : List Token) (e : ParseError) (shown : SourceFault) (p : Source)
+no-token_fault : (tokens : List Token) (e : ParseFault) (shown : SourceFault) (p : Source)
     → Sentence limits (token_kinds tokens) p → ExplainsTokens e tokens → token_fault e ≡ Some shown → ⊥
 no-token_fault tokens (token.Unexpected at) shown p sentence u is =
     u.none limits (next_begins tokens u.before u.after u.token p u.split sentence)
 no-token_fault tokens token.EndOfText shown p sentence u is = u.none p sentence
 no-token_fault tokens (token.TooDeep at) shown p sentence u is =
     u.none (next_begins tokens u.before u.after u.token p u.split sentence)
-no-token_fault tokens token.Memory shown p sentence u is =
-    absurd (let f : ◌≡◌ {A = Option SourceFault} None (Some shown) = is in cc)
 
 none-some : (found : Option TypeError) (e : TypeError) → found ≡ None → found ≡ Some e → ⊥
 none-some found e none some = absurd (let f : ◌≡◌ {A = Option TypeError} None (Some e) = sym none ∙ some in cc)

@@ -1,7 +1,7 @@
 -- Each source text is a program, with procedures or without, or has a first fault.
 use Rattle.std.proofs.Common.{◌≡◌, ℕ, Bool, true, false, List, Option, Some, None, Result, Ok, Err, refl}
 use Rattle.src_lexer.specs.declared.tokens.Token.{Token}
-use Rattle.src_lexer.specs.declared.errors.LexError.{LexError}
+use Rattle.src_lexer.specs.declared.errors.LexFault.{LexFault}
 use Rattle.src_lexer.specs.Prelude.{Splits}
 use Rattle.src_parser.specs.Prelude.{limits, Sentence, token_kinds}
 use Rattle.src_parser.proofs.Places.{unexpected, too_deep, cut_short}
@@ -19,21 +19,20 @@ use Rattle.src_tree.proofs.FirstFaults.{cause}
 use Rattle.flow_types.proofs.Judged.{explained}
 use Rattle.call_replies.specs.declared.source_faults.SourceFault.{SourceFault}
 use Rattle.call_steps.specs.Prelude.{IsRight, WhichSource, Spells, NoFile, InCalls, InPieces, InTokens, InProgram, piece_fault, program_fault, shown_call_fault}
-use Rattle.call_laws.proofs.LexedTexts.{IsTold as IsToldPiece, Reading, Reads, Fails, reading}
+use Rattle.call_laws.proofs.LexedTexts.{Reading, Reads, Fails, reading}
 use Rattle.call_laws.proofs.ParsedTokens.{Outcome, IsSentence, IsStray, IsDeeper, IsCut, outcome}
 use Rattle.call_laws.proofs.ToldFaults.{IsTold, IsToldCall, type-told, inline-told}
-use Rattle.src_lexer.specs.declared.errors.LexError.TheVariants as piece
-use Rattle.src_parser.specs.declared.errors.ParseError.TheVariants as token
+use Rattle.src_lexer.specs.declared.errors.LexFault.TheVariants as piece
+use Rattle.src_parser.specs.declared.errors.ParseFault.TheVariants as token
 use Rattle.src_procs.specs.declared.errors.InlineError.TheVariants as calls
 use Rattle.src_procs.proofs.Judged as files
 use Rattle.src_tree.specs.declared.faults.TypeError.TheVariants as program
 use Rattle.call_replies.specs.declared.source_faults.SourceFault.TheVariants as fault
 
-piece-shown : (e : LexError) → IsToldPiece e → (shown : SourceFault) × (piece_fault e ≡ Some shown)
-piece-shown (piece.BadByte at) told = (fault.Byte at, refl)
-piece-shown (piece.NumberTooBig at) told = (fault.Number at, refl)
-piece-shown (piece.NameTooLong at) told = (fault.Name at, refl)
-piece-shown piece.Memory told = absurd told
+piece-shown : (e : LexFault) → (shown : SourceFault) × (piece_fault e ≡ Some shown)
+piece-shown (piece.BadByte at) = (fault.Byte at, refl)
+piece-shown (piece.NumberTooBig at) = (fault.Number at, refl)
+piece-shown (piece.NameTooLong at) = (fault.Name at, refl)
 
 call-shown : (e : InlineError) → IsToldCall e → (shown : SourceFault) × (shown_call_fault e ≡ Some shown)
 call-shown (calls.TwiceNamed n) told = (fault.ProcedureTwice n, refl)
@@ -121,4 +120,4 @@ source-some procs text = by (reading text)
   where
     by : Reading 0 text → SomeRight procs text
     by (Reads tokens split) = on-tokens text procs tokens split
-    by (Fails e told split) = let shown = piece-shown e told in (Err shown.0, InPieces e split shown.1)
+    by (Fails e split) = let shown = piece-shown e in (Err shown.0, InPieces e split shown.1)

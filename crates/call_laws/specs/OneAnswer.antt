@@ -1,7 +1,7 @@
 -- If the contents of files and the requested work are known, there is at most one answer: one status, one text, and one
 -- map of files. (This project's profile.) Two things are left open: the object that `compile` and `sample` make, and the
 -- levels of blocks with `--paths`.
-use Rattle.std.specs.Prelude.{◌≡◌, ◌≢◌, ℕ, ◌<◌, ◌≤◌, ℤ, Bool, false, List, length, All, Some, None, Result, Ok}
+use Rattle.std.specs.Prelude.{◌≡◌, ℕ, ◌<◌, ◌≤◌, ℤ, Bool, false, List, length, All, Some, None, Result, Ok}
 use Rattle.std.specs.FinMap.{get}
 use Rattle.gr_base.specs.Lists.{Within}
 use Rattle.gr_outside.specs.Shelf.{Files, SameBut}
@@ -13,8 +13,7 @@ use Rattle.trace_patterns.specs.Accepts.{Accepts}
 use Rattle.src_lexer.specs.declared.tokens.Token.{Token}
 use Rattle.src_parser.specs.Grammar.{limits}
 use Rattle.src_parser.specs.Refusals.{token_kinds}
-use Rattle.src_parser.specs.declared.errors.ParseError.{ParseError}
-use Rattle.src_parser.specs.declared.errors.ParseError.TheVariants.{Memory}
+use Rattle.src_parser.specs.declared.errors.ParseFault.{ParseFault}
 use Rattle.procs_parser.specs.FileGrammar.{SpellsFile}
 use Rattle.procs_parser.specs.FileRefusals.{ExplainsFile}
 use Rattle.src_procs.specs.Trees.{File}
@@ -79,8 +78,8 @@ pub record OneAnswer : Type 0 where
 pub record OneSource : Type 0 where
   pub one_file : (tokens : List Token) (f g : File) → SpellsFile limits (token_kinds tokens) f
       → SpellsFile limits (token_kinds tokens) g → f ≡ g
-  pub no_refusal : (tokens : List Token) (f : File) (e : ParseError) → SpellsFile limits (token_kinds tokens) f
-      → ExplainsFile e tokens → e ≢ Memory → ⊥
+  pub no_refusal : (tokens : List Token) (f : File) (e : ParseFault) → SpellsFile limits (token_kinds tokens) f
+      → ExplainsFile e tokens → ⊥
   pub once : (procs : Bool) (text : List ℕ) (a b : Result Source SourceFault) → IsRight (WhichSource procs text) a
       → IsRight (WhichSource procs text) b → a ≡ b
 
