@@ -1,3 +1,7 @@
+ghost use Rattle.std.specs.Prelude.{IfOk, OnOk};
+ghost use Rattle.std.specs.Io.KnownBytes.{Appends};
+ghost use Rattle.real_outside.specs.Known.{AreAppended};
+
 use crate::rights::{PRIVATE, Rights};
 use std::alloc::Global;
 use std::fs::{Metadata, OpenFile, OpenOptions};
@@ -36,6 +40,7 @@ struct Target {
 pub(crate) fn replace<R: Files>(rt: &R, alloc: Global, name: &str, bytes: &[u8]) -> io::Result<()>
 where
     R::File: AsFd,
+    ensures { OnOk result (AreAppended R.File.Write.contents bytes.now) }
 {
     if is_standard_output(rt, name) {
         return Err(Error::new(ErrorKind::InvalidInput, IS_OUTPUT));
@@ -48,10 +53,7 @@ where
     else {
         return write_in_place(rt, name, bytes);
     };
-    let done = match fill(&mut file, rights, bytes) {
-        Ok(()) => take_name(rt, beside.as_str(), path.as_str()),
-        Err(error) => Err(error),
-    };
+    let done = fill_and_name(rt, &mut file, rights, bytes, beside.as_str(), path.as_str());
     if let Ok(true) = done {
         sync(&file)?;
         return sync_folder_of(rt, path.as_str());
@@ -79,6 +81,26 @@ fn is_standard_output<R: Files>(rt: &R, name: &str) -> bool {
 // Whether two files are the same one, by device and number.
 fn is_one_file(file: &Metadata, other: &Metadata) -> bool {
     file.dev() == other.dev() && file.ino() == other.ino()
+}
+
+// Fills a new file, and then gives it the name of another. Returns whether the system allowed that.
+fn fill_and_name<R: Files>(
+    rt: &R,
+    file: &mut R::File,
+    rights: Option<Rights>,
+    bytes: &[u8],
+    beside: &str,
+    path: &str,
+) -> io::Result<bool>
+where
+    R::File: AsFd,
+    ensures { IfOk result
+        (λ _. Appends (R.File.Write.contents file.old) (R.File.Write.contents file.new) bytes.now) }
+{
+    match fill(file, rights, bytes) {
+        Ok(()) => take_name(rt, beside, path),
+        Err(error) => Err(error),
+    }
 }
 
 // Gives a new file the name of another, and returns whether the system allowed it. The system doesn't if the other one
@@ -110,7 +132,9 @@ fn fill<F: Write + OpenFile + AsFd>(
     file: &mut F,
     rights: Option<Rights>,
     bytes: &[u8],
-) -> io::Result<()> {
+) -> io::Result<()>
+    ensures { OnOk result (Appends (F.Write.contents file.old) (F.Write.contents file.new) bytes.now) }
+{
     let rights = match rights {
         Some(rights) => rights,
         // A process that opens the empty file before this may read all of it later.
@@ -121,7 +145,9 @@ fn fill<F: Write + OpenFile + AsFd>(
     rights.give_to(file)
 }
 
-fn write_in_place<R: Files>(rt: &R, name: &str, bytes: &[u8]) -> io::Result<()> {
+fn write_in_place<R: Files>(rt: &R, name: &str, bytes: &[u8]) -> io::Result<()>
+    ensures { OnOk result (AreAppended R.File.Write.contents bytes.now) }
+{
     let mut file = fs::create(rt, name)?;
     file.write_all(bytes)?;
     sync(&file)

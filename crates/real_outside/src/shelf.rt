@@ -1,5 +1,6 @@
-ghost use Rattle.std.specs.Prelude.{◌≡◌, ◌≢◌, ◌≤◌, ◌+◌, ◌↔◌, IfOk, IsSome, None, vec_len};
-ghost use Rattle.gr_base.specs.Prelude.{one_more};
+ghost use Rattle.std.specs.Prelude.{◌≡◌, ◌≢◌, ◌⊎◌, ◌≤◌, ◌+◌, ◌-◌, ◌^◌, ◌↔◌, IfOk, IsSome, None, OnOk, vec_len};
+ghost use Rattle.gr_base.specs.Prelude.{one_more, Rose};
+ghost use Rattle.real_outside.specs.Known.{AreAppended, IsFrontOf};
 
 use crate::failure::Failure;
 use crate::replacing::replace;
@@ -101,7 +102,18 @@ where
     } };
 
     #[tactic(auto, using(gr_base::proofs::Counts::rose_by_one))]
-    fn read(&mut self, name: &str, most: usize) -> Result<Vec<u8>, ShelfError> {
+    fn read(&mut self, name: &str, most: usize) -> Result<Vec<u8>, ShelfError>
+        ensures at_most { IfOk result (λ bytes. vec_len bytes ≤ most) }
+        ensures front { IfOk result
+            (λ bytes. (file : R.File) × IsFrontOf (R.File.Read.remaining file) most bytes.items) }
+        ensures calm { OnOk result (self.new ≡ self.old) }
+        ensures others { self.new ≡ record self.old { read_faults = self.new.read_faults } }
+        ensures failed { (result ≡ Err ShelfError.Missing) ⊎ (result ≡ Err ShelfError.Failed)
+            → Rose self.old.read_faults self.new.read_faults }
+        ensures starved { result ≡ Err ShelfError.Memory → self.new ≡ self.old }
+        ensures count { self.old.read_faults ≤ self.new.read_faults }
+        ensures count_stays { self.old.read_faults ≡ 2 ^ 64 - 1 → self.new.read_faults ≡ 2 ^ 64 - 1 }
+    {
         match read_front(&self.rt, self.alloc, name, most) {
             Ok(bytes) => Ok(bytes),
             Err(error) if error.kind() == ErrorKind::OutOfMemory => Err(ShelfError::Memory),
@@ -113,7 +125,20 @@ where
     }
 
     #[tactic(auto, using(gr_base::proofs::Counts::rose_by_one))]
-    fn write(&mut self, name: &str, bytes: &[u8]) -> Result<(), ShelfError> {
+    fn write(&mut self, name: &str, bytes: &[u8]) -> Result<(), ShelfError>
+        ensures written { OnOk result (AreAppended R.File.Write.contents bytes.now) }
+        ensures calm { OnOk result (self.new ≡ self.old) }
+        ensures not_missing { result ≢ Err ShelfError.Missing }
+        ensures reads { self.new.read_faults ≡ self.old.read_faults }
+        ensures failed { result ≡ Err ShelfError.Failed
+            → Rose self.old.write_faults self.new.write_faults × (self.new.starved ≡ self.old.starved) }
+        ensures starved { result ≡ Err ShelfError.Memory
+            → Rose self.old.starved self.new.starved × (self.new.write_faults ≡ self.old.write_faults) }
+        ensures write_count { self.old.write_faults ≤ self.new.write_faults }
+        ensures write_count_stays { self.old.write_faults ≡ 2 ^ 64 - 1 → self.new.write_faults ≡ 2 ^ 64 - 1 }
+        ensures starved_count { self.old.starved ≤ self.new.starved }
+        ensures starved_count_stays { self.old.starved ≡ 2 ^ 64 - 1 → self.new.starved ≡ 2 ^ 64 - 1 }
+    {
         match replace(&self.rt, self.alloc, name, bytes) {
             Ok(()) => Ok(()),
             Err(error) if error.kind() == ErrorKind::OutOfMemory => {
@@ -141,32 +166,24 @@ fn refusal_of_read(kind: ErrorKind) -> ShelfError
 
 /// The first `most` bytes of a real file.
 fn read_front<R: Files>(rt: &R, alloc: Global, name: &str, most: usize) -> io::Result<Vec<u8>>
-    ensures { IfOk result (λ bytes. vec_len bytes ≤ most) }
+    ensures at_most { IfOk result (λ bytes. vec_len bytes ≤ most) }
+    ensures front { IfOk result
+        (λ bytes. (file : R.File) × IsFrontOf (R.File.Read.remaining file) most bytes.items) }
 {
     match fs::open(rt, name) {
-        Ok(mut file) => read_chunks(alloc, &mut file, most),
+        Ok(file) => front_of(alloc, file, most),
         Err(error) => Err(error),
     }
 }
 
-fn read_chunks(alloc: Global, file: &mut impl Read, most: usize) -> io::Result<Vec<u8>>
-    ensures { IfOk result (λ bytes. vec_len bytes ≤ most) }
+/// The first `most` bytes that a reader has left, or all of them if it has fewer.
+fn front_of<F: Read + Drop>(alloc: Global, file: F, most: usize) -> io::Result<Vec<u8>>
+    ensures at_most { IfOk result (λ bytes. vec_len bytes ≤ most) }
+    ensures front { IfOk result (λ bytes. IsFrontOf (F.remaining file) most bytes.items) }
 {
     let mut bytes = Vec::new(alloc);
-    let mut chunk = new_chunk(alloc)?;
-    for _turn in 0..u64::MAX {
-        let left = (most - bytes.len()).min(chunk.len());
-        match file.read(&mut chunk[..left]) {
-            Ok(0) => return Ok(bytes),
-            Ok(count) => bytes.extend_from_slice(&chunk[..count])?,
-            Err(error) if error.kind() == ErrorKind::Interrupted => {}
-            Err(error) => return Err(error),
-        }
-    }
-    Err(Error::from(ErrorKind::FileTooLarge))
-}
-
-// A function of its own, since `vec!` in a loop's function makes its proof larger.
-fn new_chunk(alloc: Global) -> Result<Vec<u8>, AllocError> {
-    vec![in alloc; 0u8; CHUNK]
+    file.take(most as u64).read_to_end(&mut bytes)?;
+    // No more than this was asked for, but `take` promises so only of readers whose bytes are known.
+    bytes.truncate(most);
+    Ok(bytes)
 }
