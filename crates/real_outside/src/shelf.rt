@@ -15,7 +15,9 @@ use std::{fs, io};
 /// The most bytes that one call of the system reads.
 const CHUNK: usize = 65_536;
 
-/// A shelf over real files. It can't list its files, so no clause is about their contents. A missing file counts as a
+/// A shelf over real files. It can't list its files, so contracts see none of them. Its own clauses state that a read
+/// returns the first bytes of what some file had left, and that a write has added all bytes to some file. It isn't
+/// proved that these are the files of that name, since the standard library doesn't state it. A missing file counts as a
 /// failed read. Running out of memory doesn't count as a failure of a read or a write; writes that run out of memory
 /// have their own count. [`RealShelf::failure`] returns the last failure and its cause.
 ///
