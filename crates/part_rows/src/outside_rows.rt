@@ -80,6 +80,28 @@ fn told(sink: &mut RealSink<Stuck>, long: &[u8]) -> (Put, usize, Put, Put) {
     (first, mark, flushed, sink.put(long))
 }
 
+/// A writer that takes all bytes and can't pass them on.
+#[derive(Drop)]
+struct Clogged;
+
+impl Write for Clogged {
+    fn write(&mut self, bytes: &[u8]) -> io::Result<usize> {
+        Ok(bytes.len())
+    }
+
+    fn flush(&mut self) -> io::Result<()> {
+        Err(io::Error::from(io::ErrorKind::Other))
+    }
+}
+
+#[test]
+fn an_output_that_cannot_be_flushed_is_a_failure(rt: HostRuntime) -> Result<(), Fail> {
+    let mut sink = RealSink::new(rt.alloc(), Clogged);
+    sink.put(b"a line\n")?;
+    assert_eq!(rt; sink.flush(), Err(SinkFailed));
+    Ok(())
+}
+
 #[test]
 fn what_is_put_reaches_the_output(rt: HostRuntime) -> Result<(), Fail> {
     let mut sink = RealSink::new(rt.alloc(), io::writer(&rt));
