@@ -1,14 +1,15 @@
 -- How the parts of a call come together: what each exit of the front shows, and that every other file is as it was.
-use Rattle.std.proofs.Common.{◌≡◌, ◌≢◌, ◌⊎◌, inl, inr, ℕ, false, List, Option, Some, refl, sym, ap, ◌∙◌, subst}
+use Rattle.std.proofs.Common.{◌≡◌, ◌≢◌, inl, inr, ℕ, false, List, Option, None, Some, refl, sym, ap, ◌∙◌, subst}
 use Rattle.std.specs.Option.{option_map}
 use Rattle.std.specs.FinMap.{get}
 use Rattle.std.specs.Str.{bytes_eq}
 use Rattle.std.proofs.lemmas.Bool.{false_from_ne_true}
 use Rattle.std.proofs.lemmas.Option.{same_Some}
 use Rattle.std.proofs.lemmas.Slice.Eq.{bytes_eq-Decides}
-use Rattle.gr_base.specs.Prelude.{Adds, Rose}
+use Rattle.gr_base.specs.Prelude.{Adds, AddsLess, Rose}
 use Rattle.gr_outside.specs.Prelude.{Files, SameBut, SinkSeen}
-use Rattle.call_steps.specs.Prelude.{outside, Work}
+use Rattle.call_replies.specs.Prelude.{no_memory, usage}
+use Rattle.call_steps.specs.Prelude.{PutsSaid, outside, Work}
 use Rattle.call_laws.specs.Prelude.{Promises, IsOutput}
 use Rattle.call_laws.proofs.Safe.{promises-follow}
 use Rattle.ghost_front.specs.Prelude.{Streams, as_shelf, overlaid, stream_of, told, Around, Delivers, NotDone, Whole, NotPut, Serves, Refused, NoRoom, Printed, Streamed, StreamsFile, KeepsOthers, around, bytes_of}
@@ -23,6 +24,30 @@ added_before_flush before mid after bytes adds flushed = subst (λ held. Adds be
 pub rose_in_flush : (before mid after : SinkSeen) → mid.faults ≡ before.faults → Rose mid.faults after.faults
     → Rose before.faults after.faults
 rose_in_flush before mid after calm rose = subst (λ n. Rose n after.faults) calm rose
+
+-- ---- a line that is put, and then passed on
+
+pub said_whole : (before mid after : SinkSeen) (text : List ℕ) (status : ℕ) → Adds before.held mid.held text
+    → mid.faults ≡ before.faults → after.held ≡ mid.held → after.faults ≡ mid.faults
+    → PutsSaid before after (record { status = status; text = text }) status
+said_whole before mid after text status adds calm flushed still =
+    inl (refl, added_before_flush before mid after text adds flushed, still ∙ calm)
+
+pub said_cut : (before after : SinkSeen) (text : List ℕ) (status : ℕ) → AddsLess before.held after.held text
+    → Rose before.faults after.faults → PutsSaid before after (record { status = status; text = text }) 4
+said_cut before after text status less rose = inr (refl, rose, less)
+
+-- nothing is stated of the bytes of a sink that may fail to pass them on
+untold : (before now : Option (List ℕ)) (text : List ℕ) → now ≡ None → AddsLess before now text
+untold (Some held) None text none = tt
+untold None None text none = tt
+untold before (Some held) text none = absurd (let f : ◌≡◌ {A = Option (List ℕ)} (Some held) None = none in cc)
+
+pub said_unflushed : (before mid after : SinkSeen) (text : List ℕ) (status : ℕ) → mid.faults ≡ before.faults
+    → mid.held ≡ None → after.held ≡ mid.held → Rose mid.faults after.faults
+    → PutsSaid before after (record { status = status; text = text }) 4
+said_unflushed before mid after text status calm none flushed rose =
+    inr (refl, rose_in_flush before mid after calm rose, untold before.held after.held text (flushed ∙ none))
 
 -- ---- the file for standard output
 
@@ -64,20 +89,14 @@ streams_file asked before after output output-after errors errors-after start sa
 -- ---- the exits of a call
 
 pub refused : (asked : Option Work) (shelf : Streams) (output output-after errors errors-after : SinkSeen) (status : ℕ)
-    → (status ≡ 2) ⊎ (status ≡ 4)
+    → PutsSaid output output-after usage status
     → Serves asked (around shelf output errors) (around shelf output-after errors-after) status
-refused asked shelf output output-after errors errors-after status is = Refused is refl
+refused asked shelf output output-after errors errors-after status said = Refused refl said
 
 pub no_room : (asked : Option Work) (before after : Streams) (output output-after errors errors-after : SinkSeen)
-    (status : ℕ) → (status ≡ 5) ⊎ (status ≡ 4) → after.files ≡ before.files
+    (status : ℕ) → PutsSaid output output-after no_memory status → after ≡ before
     → Serves asked (around before output errors) (around after output-after errors-after) status
-no_room asked before after output output-after errors errors-after status is same = NoRoom is same
-
-pub no_room_after : (asked : Option Work) (before after : Streams) (output output-after errors errors-after : SinkSeen)
-    (status : ℕ) → (status ≡ 5) ⊎ (status ≡ 4) → after ≡ record before { input = after.input }
-    → Serves asked (around before output errors) (around after output-after errors-after) status
-no_room_after asked before after output output-after errors errors-after status is same =
-    NoRoom is (ap (λ s. s.files) same)
+no_room asked before after output output-after errors errors-after status said same = NoRoom same said
 
 pub printed : (asked : Option Work) (before mid after : Streams) (output output-after errors errors-after : SinkSeen)
     (status : ℕ) → mid ≡ record before { input = mid.input }
@@ -99,8 +118,8 @@ streamed asked before mid after output output-after errors errors-after status s
 pub said_later : (asked : Option Work) (before : Around) (shelf : Streams) (output errors errors-after : SinkSeen)
     (status : ℕ) → Serves asked before (around shelf output errors) status
     → Serves asked before (around shelf output errors-after) status
-said_later asked before shelf output errors errors-after status (Refused is same) = Refused is same
-said_later asked before shelf output errors errors-after status (NoRoom is same) = NoRoom is same
+said_later asked before shelf output errors errors-after status (Refused same said) = Refused same said
+said_later asked before shelf output errors errors-after status (NoRoom same said) = NoRoom same said
 said_later asked before shelf output errors errors-after status (Printed input promises) = Printed input promises
 said_later asked before shelf output errors errors-after status (Streamed input file) =
     Streamed input (record {
@@ -169,10 +188,10 @@ promises_keep asked before after sink sink-after status promises =
 
 pub serves_keep : (asked : Option Work) (before after : Around) (status : ℕ) → Serves asked before after status
     → KeepsOthers asked before.shelf.files after.shelf.files
-serves_keep asked before after status (Refused is same) =
+serves_keep asked before after status (Refused same said) =
     same_files_keep asked before.shelf.files after.shelf.files (ap (λ s. s.files) same)
-serves_keep asked before after status (NoRoom is same) =
-    same_files_keep asked before.shelf.files after.shelf.files same
+serves_keep asked before after status (NoRoom same said) =
+    same_files_keep asked before.shelf.files after.shelf.files (ap (λ s. s.files) same)
 serves_keep asked before after status (Printed input promises) =
     promises_keep asked (record (before.shelf) { input = input }) after.shelf before.output after.output status promises
 serves_keep asked before after status (Streamed input file) =

@@ -1,12 +1,13 @@
 -- What a call of the front program does for a verb of `ghost_cli`: what the verb promises, with `-` as a stream.
-use Rattle.std.specs.Prelude.{◌≡◌, ◌≢◌, ◌⊎◌, ℕ, false, List, [], Option, Some, None}
+use Rattle.std.specs.Prelude.{◌≡◌, ◌≢◌, ℕ, false, List, [], Option, Some, None}
 use Rattle.std.specs.FinMap.{get}
 use Rattle.std.specs.Str.{bytes_eq}
 use Rattle.gr_base.specs.Added.{Adds}
 use Rattle.gr_base.specs.Counts.{Rose}
 use Rattle.gr_outside.specs.Shelf.{Files}
 use Rattle.gr_outside.specs.Sink.{SinkSeen}
-use Rattle.call_steps.specs.Outside.{outside}
+use Rattle.call_replies.specs.Texts.{no_memory, usage}
+use Rattle.call_steps.specs.Outside.{PutsSaid, outside}
 use Rattle.call_laws.specs.Promises.{Promises, IsOutput}
 use Rattle.call_steps.specs.Work.{Work}
 use Rattle.ghost_front.specs.Streams.{Streams, as_shelf, dash}
@@ -47,12 +48,14 @@ abbrev pub with_input : Option (List ℕ) → Around → Around
 with_input input before = record before { shelf = record (before.shelf) { input = input } }
 
 -- How a call of a verb ends. `Refused`: standard input is to be read as two files, or two options precede the verb.
--- `NoRoom`: memory ran out before the verb began. In both cases no file changed, and the status is 4 if the line couldn't
--- be printed.
+-- `NoRoom`: memory ran out before the verb began. In both cases nothing was read or written, and only the line of that
+-- status was printed, or standard output failed and the status is 4.
 -- `Printed`: the verb did what it promises, and printed to standard output. `Streamed`: it printed to standard error.
 pub data Serves (asked : Option Work) (before after : Around) (status : ℕ) : Type 0 where
-  Refused : (status ≡ 2) ⊎ (status ≡ 4) → after.shelf ≡ before.shelf → Serves asked before after status
-  NoRoom : (status ≡ 5) ⊎ (status ≡ 4) → after.shelf.files ≡ before.shelf.files → Serves asked before after status
+  Refused : after.shelf ≡ before.shelf → PutsSaid before.output after.output usage status
+      → Serves asked before after status
+  NoRoom : after.shelf ≡ before.shelf → PutsSaid before.output after.output no_memory status
+      → Serves asked before after status
   Printed : (input : Option (List ℕ))
       → Promises asked (outside (as_shelf (with_input input before).shelf) before.output)
       (outside (as_shelf after.shelf) after.output) status

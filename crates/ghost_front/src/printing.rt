@@ -1,7 +1,8 @@
 //! Prints texts, and returns the exit status that goes with them.
 
-ghost use Rattle.std.specs.Prelude.{◌≡◌, ◌⊎◌, OnOk, OnErr};
+ghost use Rattle.std.specs.Prelude.{◌≡◌, ◌≢◌, ◌⊎◌, OnOk, OnErr};
 ghost use Rattle.gr_base.specs.Prelude.{Adds, Rose};
+ghost use Rattle.call_steps.specs.Prelude.{PutsSaid};
 
 use gr_outside::{Sink, SinkFailed};
 
@@ -36,6 +37,22 @@ pub(crate) fn put_bytes<O: Sink>(bytes: &[u8], out: &mut O) -> Result<(), SinkFa
         Err(error) => return Err(error),
     }
     out.flush()
+}
+
+/// Prints a line, passes on what the sink holds back, and returns this status, or 4 if the sink failed.
+#[tactic(auto, using(crate::proofs::CallEnds::said_whole, crate::proofs::CallEnds::said_cut, crate::proofs::CallEnds::said_unflushed))]
+pub(crate) fn put_line<O: Sink>(line: &str, status: u8, out: &mut O) -> u8
+    ensures said { PutsSaid (O.seen out.old) (O.seen out.new) (record { status = status; text = line.now }) result }
+    ensures flushed { result ≢ 4 → O.waiting out.new ≡ 0 }
+{
+    match out.put(line.as_bytes()) {
+        Ok(()) => {}
+        Err(_) => return NOT_PUT,
+    }
+    match out.flush() {
+        Ok(()) => status,
+        Err(_) => NOT_PUT,
+    }
 }
 
 /// The status of a call whose output was printed, or couldn't be.

@@ -1,8 +1,9 @@
 //! A call of a verb of `ghost_cli`, with the standard streams as files.
 
-ghost use Rattle.std.specs.Prelude.{◌≡◌, ◌⊎◌, option_copied};
+ghost use Rattle.std.specs.Prelude.{◌≡◌, OnErr, option_copied};
+ghost use Rattle.call_replies.specs.Prelude.{no_memory, usage};
 ghost use Rattle.command_words.specs.Prelude.{texts};
-ghost use Rattle.call_steps.specs.Prelude.{outside};
+ghost use Rattle.call_steps.specs.Prelude.{PutsSaid, outside};
 ghost use Rattle.call_laws.specs.Prelude.{Promises, work_of};
 ghost use Rattle.ghost_front.specs.Served.{Delivers, Serves, StreamsFile, around, bytes_of};
 ghost use Rattle.ghost_front.specs.Streams.{as_shelf};
@@ -10,7 +11,7 @@ ghost use Rattle.ghost_front.specs.Streams.{as_shelf};
 use crate::explaining::put_text;
 use crate::held_text::{HeldText, as_json};
 use crate::named_files::NamedFiles;
-use crate::printing::{DONE, NO_MEMORY, NOT_PUT, USAGE, put_all, status_after};
+use crate::printing::{DONE, NO_MEMORY, NOT_PUT, USAGE, put_line};
 use crate::reading::read_most;
 use crate::requests::is_manner;
 use crate::streams::StreamShelf;
@@ -53,7 +54,7 @@ pub(crate) struct Ended<'a> {
 
 /// Does the work of a verb. Standard input is read at most once, and only if `-` is the name of a file to read. If OUT is
 /// `-`, the file goes to `out`, and the verb's text to `errors`, as lines of JSON if `as_lines` is true.
-#[tactic(auto, using(crate::proofs::CallEnds::refused, crate::proofs::CallEnds::no_room, crate::proofs::CallEnds::no_room_after, crate::proofs::CallEnds::printed, crate::proofs::CallEnds::streamed))]
+#[tactic(auto, using(crate::proofs::CallEnds::refused, crate::proofs::CallEnds::no_room, crate::proofs::CallEnds::printed, crate::proofs::CallEnds::streamed))]
 pub(crate) fn serve<'a, F: Shelf + Drop, I: Read, O: Sink, E: Sink>(
     alloc: Global,
     words: &'a [&'a str],
@@ -190,7 +191,8 @@ pub(crate) fn take_input<F: Shelf + Drop, I: Read>(
     shelf: &mut StreamShelf<F>,
     input: &mut I,
 ) -> Result<(), Memory>
-    ensures { shelf.new ≡ record shelf.old { input = shelf.new.input } }
+    ensures only_input { shelf.new ≡ record shelf.old { input = shelf.new.input } }
+    ensures starved { OnErr result (shelf.new ≡ shelf.old) }
 {
     let Some(kind) = kind else {
         return Ok(());
@@ -212,20 +214,20 @@ pub(crate) fn take_input<F: Shelf + Drop, I: Read>(
 
 /// Prints the line of a usage error.
 pub(crate) fn refused<'a, O: Sink>(stop: Stop<'a>, out: &mut O) -> Ended<'a>
-    ensures { (result.status ≡ 2) ⊎ (result.status ≡ 4) }
+    ensures { PutsSaid (O.seen out.old) (O.seen out.new) usage result.status }
 {
     Ended {
-        status: status_after(put_all(&[USAGE_LINE], out), USAGE),
+        status: put_line(USAGE_LINE, USAGE, out),
         stop: Some(stop),
     }
 }
 
 /// Prints that memory ran out.
 pub(crate) fn starved<'a, O: Sink>(out: &mut O) -> Ended<'a>
-    ensures { (result.status ≡ 5) ⊎ (result.status ≡ 4) }
+    ensures { PutsSaid (O.seen out.old) (O.seen out.new) no_memory result.status }
 {
     Ended {
-        status: status_after(put_all(&[replies::NO_MEMORY], out), NO_MEMORY),
+        status: put_line(replies::NO_MEMORY, NO_MEMORY, out),
         stop: Some(Stop::NoMemory),
     }
 }

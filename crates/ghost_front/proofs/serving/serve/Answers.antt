@@ -8,11 +8,11 @@ returns-then-streams_output g c =
     streamed (work_of (texts c.args.words.now)) c.args.shelf.now c.take_input.new.shelf c.serve_to_output.new.shelf
     (g.O.Sink.seen c.args.out.now) (g.O.Sink.seen c.serve_to_output.new.out)
     (g.E.Sink.seen c.args.errors.now) (g.E.Sink.seen c.serve_to_output.new.errors)
-    c.serve_to_output.result.status c.take_input.ensures c.serve_to_output.ensures
+    c.serve_to_output.result.status c.take_input.ensures.only_input c.serve_to_output.ensures
 
 pub returns : goal.returns
 returns g c =
     printed (work_of (texts c.args.words.now)) c.args.shelf.now c.take_input.new.shelf c.serve_verb.new.shelf
     (g.O.Sink.seen c.args.out.now) (g.O.Sink.seen c.serve_verb.new.out)
     (g.E.Sink.seen c.args.errors.now) (g.E.Sink.seen c.args.errors.now)
-    c.serve_verb.result.status c.take_input.ensures c.serve_verb.ensures
+    c.serve_verb.result.status c.take_input.ensures.only_input c.serve_verb.ensures

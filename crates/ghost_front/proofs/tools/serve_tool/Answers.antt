@@ -6,9 +6,9 @@ use Rattle.ghost_front.proofs.tools.serve_tool.Goals as goal
 pub returns : goal.returns
 returns g c =
     told_keeps_after (work_of (texts c.args.words.now)) c.args.shelf.now c.take_input.new.shelf c.serve_test.new.shelf
-    c.take_input.ensures c.serve_test.ensures
+    c.take_input.ensures.only_input c.serve_test.ensures
 
 pub returns-2 : goal.returns-2
 returns-2 g c =
     told_keeps_after (work_of (texts c.args.words.now)) c.args.shelf.now c.take_input.new.shelf c.run_tool.new.shelf
-    c.take_input.ensures c.run_tool.ensures
+    c.take_input.ensures.only_input c.run_tool.ensures
