@@ -37,7 +37,7 @@ mutual
         → CrossesTo o depth end p offset s pattern join t → WalksTo o depth end join t rest u
         → WalksTo o depth end p s (joined pattern rest) u
 
--- The region of a branch at p with an offset is crossed to its join: both arms are walked from one state, both paths
+  -- The region of a branch at p with an offset is crossed to its join: both arms are walked from one state, both paths
   -- show the same events, and what both arms leave alike is known at the join.
   -- Rule: check/equal-arms.
   pub data CrossesTo (o : Parts) : (depth end p : ℕ) → ℤ → SymState → Shown TreeEvent → ℕ → SymState → Type 0 where
