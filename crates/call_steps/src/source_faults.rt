@@ -5,7 +5,7 @@ use call_replies::source_faults::SourceFault;
 use flow_types::TypeError;
 use src_lexer::LexFault;
 use src_parser::{ParseFault, TextFault};
-use src_procs::InlineError;
+use procs_tree::InlineError;
 
 /// The fault of a text as it is shown.
 pub(crate) fn text_fault(fault: TextFault) -> Option<SourceFault>

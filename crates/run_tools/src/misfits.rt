@@ -5,7 +5,7 @@ use crate::variables::push_name;
 use gr_base::Memory;
 use gr_word::{Shape, Want};
 use serde_json::Value;
-use src_procs::is_hidden;
+use procs_tree::is_hidden;
 use std::alloc::Global;
 
 /// The most variables that a line names.

@@ -6,7 +6,7 @@ use Rattle.std.proofs.lemmas.List.{get_or_push, length_push, get_or_append_left,
 use Rattle.src_tree.specs.declared.trees.Decl.{Decl}
 use Rattle.src_tree.specs.Prelude.{DeclaredOnce}
 use Rattle.src_tree.proofs.NamesDiffer.{names_differ}
-use Rattle.src_procs.specs.Prelude.{is_hidden}
+use Rattle.procs_tree.specs.Prelude.{is_hidden}
 use Rattle.source_faults.specs.Prelude.{IsNew}
 
 -- The names of the first k variables. A variable that a call adds has a name that isn't declared.

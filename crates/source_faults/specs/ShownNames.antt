@@ -1,7 +1,7 @@
 -- The names of a program's variables for people, in the order of declaration. (This project's profile.)
 use Rattle.std.specs.Prelude.{◌≡◌, ◌≢◌, ℕ, ◌<◌, false, List, [], length, slice_index_or, All, AllPairs}
 use Rattle.src_tree.specs.declared.trees.Decl.{Decl}
-use Rattle.src_procs.specs.Inlined.{is_hidden}
+use Rattle.procs_tree.specs.Inlined.{is_hidden}
 
 -- Each variable has a name. It is the declared one, unless a call adds the variable. No two variables have the same name.
 pub record AreShown (decls : List Decl) (names : List (List ℕ)) : Type 0 where

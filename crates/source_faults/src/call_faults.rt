@@ -5,7 +5,7 @@ use crate::procedures::{Procedure, Procedures};
 use crate::tokens::Tokens;
 use fault_texts::{Nearest, Words, is_word_of, length_up_to, piece, spot_at};
 use gr_base::Memory;
-use src_procs::InlineError;
+use procs_tree::InlineError;
 use std::alloc::Global;
 use std::collections::BTreeMap;
 

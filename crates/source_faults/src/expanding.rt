@@ -8,7 +8,7 @@ use crate::shown_names::{number_in, shown_names};
 use crate::tokens::{SOURCE_BYTES, Tokens, tokens_of};
 use gr_base::Memory;
 use gr_word::Name;
-use src_procs::is_hidden;
+use procs_tree::is_hidden;
 use src_tree::{Decl, Program, print};
 use std::alloc::Global;
 

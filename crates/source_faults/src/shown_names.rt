@@ -9,7 +9,7 @@ use crate::tokens::Tokens;
 use gr_base::Memory;
 use gr_word::{Name, name_fits};
 use itoa::Buffer;
-use src_procs::is_hidden;
+use procs_tree::is_hidden;
 use src_tree::Decl;
 use std::alloc::Global;
 

@@ -16,7 +16,8 @@ use procs_parser::read_file;
 use resident_alloc::resident_plan;
 use src_lexer::{LexFault, lex};
 use src_parser::{ParseFault, TextFault, read_source};
-use src_procs::{InlineError, inline_owned};
+use procs_tree::InlineError;
+use src_procs::inline_owned;
 use src_tree::Program;
 use std::alloc::Global;
 

@@ -1,6 +1,6 @@
 use Rattle.std.proofs.Common.{◌≡◌, suc, ◌+◌, ◌<◌, true, false, [], ◌∷◌, ◌++◌, length, get_or, sym, ap, ◌∙◌, subst, arith}
 use Rattle.src_tree.specs.declared.trees.Decl.{Decl}
-use Rattle.src_procs.specs.Prelude.{is_hidden}
+use Rattle.procs_tree.specs.Prelude.{is_hidden}
 use Rattle.source_faults.specs.Prelude.{IsNew}
 use Rattle.source_faults.proofs.ShownNames.{ShownBelow, new_shown, own_shown}
 use Rattle.source_faults.proofs.shown_names.shown_names.Goals.{then-is_hidden+in_ok-wanted+in_ok-free_name+in_ok-push, else-is_hidden+in_ok-copy+in_ok-push-2}
