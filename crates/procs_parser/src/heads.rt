@@ -8,9 +8,9 @@ use crate::declarations::start_statements;
 use crate::states::{FileAdvance, Front, Head, HeadPhase, ParserState, Start};
 use gr_base::Memory;
 use gr_word::{Label, Name};
+use procs_tree::Param;
 use src_lexer::Kind;
 use src_parser::putting::put;
-use procs_tree::Param;
 use src_tree::Decl;
 use std::alloc::Global;
 

@@ -4,8 +4,8 @@ ghost use Rattle.procs_tree.specs.Prelude.{statement_of};
 ghost use Rattle.procs_parser.specs.FileAdvances.{with_calls};
 
 use gr_word::Name;
-use src_parser::languages::Language;
 use procs_tree::PStmt;
+use src_parser::languages::Language;
 use src_tree::{Expr, Guard};
 
 // The language of files with procedures.

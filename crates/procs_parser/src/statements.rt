@@ -10,12 +10,12 @@ use crate::languages::ProcFiles;
 use crate::states::{CallAdvance, CallPhase, FileAdvance, Front, Head, Mode};
 use gr_base::Memory;
 use gr_word::Name;
+use procs_tree::{PStmt, Proc};
 use src_lexer::Kind;
 use src_parser::parts::{Lead, Part};
 use src_parser::putting::put;
 use src_parser::statements::{complete, is_complete, perform};
 use src_parser::states::{Advance, Blocks, Pause, Phase};
-use procs_tree::{PStmt, Proc};
 use std::alloc::Global;
 use std::mem;
 
