@@ -17,7 +17,7 @@ use crate::expanding::{
 use crate::scopes::{Naming, Scope, renamed_guard};
 use gr_base::Memory;
 use gr_word::Name;
-use procs_pruning::{Kept, Live};
+use procs_pruning::{Kept, Live, Procedures};
 use procs_tree::{Proc, called};
 use src_tree::{Decl, Expr, Guard};
 use std::alloc::Global;
