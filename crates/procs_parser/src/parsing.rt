@@ -17,10 +17,10 @@ use crate::states::{CallPhase, FileAdvance, Front, HeadPhase, Mode, ParserState,
 use gr_base::{Fail, Memory};
 use procs_tree::{PStmt, ProcFile, is_hidden};
 use src_lexer::{Kind, Token};
-use src_parser::{ParseError, ParseFault, TextFault, TokenReader, read_text, read_tree};
 use src_parser::putting::put;
 use src_parser::statements::complete;
 use src_parser::states::{Blocks, Phase};
+use src_parser::{ParseError, ParseFault, TextFault, TokenReader, read_text, read_tree};
 use std::alloc::Global;
 use std::mem;
 
