@@ -16,7 +16,8 @@ use object_faults::{
     Core, explain_assembly, explain_bus, explain_file, explain_inference, explain_refusal,
     object_in,
 };
-use source_faults::{Room, explain_source, warn_of_source};
+use source_faults::{Room, explain_source};
+use source_warnings::warn_of_source;
 use std::alloc::Global;
 use std::marker::Model;
 
