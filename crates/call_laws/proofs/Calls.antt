@@ -3,7 +3,7 @@ use Rattle.std.proofs.Common.{Bool, true, false, ℕ, List, subst}
 use Rattle.gr_word.specs.Prelude.{FitsWants}
 use Rattle.src_tree.specs.Prelude.{Source}
 use Rattle.flow_types.specs.Prelude.{declared_wants}
-use Rattle.src_procs.proofs.RoomForInputs.{room_for}
+use Rattle.procs_tree.proofs.RoomForInputs.{room_for}
 use Rattle.call_laws.specs.Prelude.{CallsAsMeant, MeansItsCalls}
 use Rattle.call_steps.specs.Prelude.{Spells}
 

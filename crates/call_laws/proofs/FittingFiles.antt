@@ -8,11 +8,11 @@ use Rattle.src_lexer.specs.declared.tokens.Kind.{Kind}
 use Rattle.src_tree.specs.declared.trees.Decl.{Decl}
 use Rattle.src_tree.specs.Prelude.{Tree, Number, Variable, Element, Operation}
 use Rattle.src_parser.specs.Prelude.{Limits}
-use Rattle.src_procs.specs.Prelude.{Statement, SetVariable, SetElement, Choice, Loop, Call, Block, Nothing, Then, Parameter, OfValue, OfVariable, Procedure, File, naming_all, new_labels, new_values, Inlined, Inlines, Renaming, added, assigned, blocks_joined, inlined, inlined_all, inlined_body, inlined_call, inlined_file, inlines_of, kept_name, new_name, no_name, renamed, IsFirstCallFault}
-use Rattle.src_procs.specs.declared.errors.InlineError.{InlineError}
-use Rattle.src_procs.proofs.CallCauses.{no-fault}
-use Rattle.src_procs.proofs.Judged.{few_labels}
-use Rattle.src_procs.proofs.NameFits.{new_name_fits}
+use Rattle.procs_tree.specs.Prelude.{Statement, SetVariable, SetElement, Choice, Loop, Call, Block, Nothing, Then, Parameter, OfValue, OfVariable, Procedure, File, naming_all, new_labels, new_values, Inlined, Inlines, Renaming, added, assigned, blocks_joined, inlined, inlined_all, inlined_body, inlined_call, inlined_file, inlines_of, kept_name, new_name, no_name, renamed, IsFirstCallFault}
+use Rattle.procs_tree.specs.declared.errors.InlineError.{InlineError}
+use Rattle.procs_tree.proofs.CallCauses.{no-fault}
+use Rattle.procs_tree.proofs.Judged.{few_labels}
+use Rattle.procs_tree.proofs.NameFits.{new_name_fits}
 use Rattle.procs_parser.specs.Prelude.{SpellsTrees, Last, Before, Arguments, NoArgument, Given, SpellsBlock, Ends, Sets, Puts, Calls, Chooses, ChoosesElse, Repeats, Procedures, NoProcedure, AProcedure, SpellsFile, AFile}
 use Rattle.block_cache_gen.specs.Prelude.{BlockHasWords, HasWords, TestHasWords}
 use Rattle.call_laws.proofs.FittingPrograms.{ProgramFits, decls-named, left-fit, right-fit, test-words, tree-words, zero-word}

@@ -8,7 +8,7 @@ use Rattle.lt_isa.specs.Prelude.{Parts, IsOblivious, trace, wants_of}
 use Rattle.call_steps.specs.declared.targets.Target.{Target}
 use Rattle.flow_types.specs.Prelude.{declared_wants}
 use Rattle.run_data.specs.Prelude.{output_of}
-use Rattle.src_procs.specs.Prelude.{added, inlined_body}
+use Rattle.procs_tree.specs.Prelude.{added, inlined_body}
 use Rattle.src_tree.specs.Prelude.{Store, Source}
 use Rattle.call_replies.specs.declared.replies.Verdict.TheVariants.{Accepted, Spent, Traced}
 use Rattle.command_words.specs.declared.verbs.Verb.TheVariants.{Check, Compile, Evaluate, Infer, Run, Trace}

@@ -15,9 +15,9 @@ use Rattle.src_parser.proofs.Tokenwise.{next_begins}
 use Rattle.procs_parser.specs.Prelude.{SpellsFile, ExplainsFile}
 use Rattle.procs_parser.proofs.FileLaws.{file_laws}
 use Rattle.procs_parser.proofs.ReadFiles.{file_read}
-use Rattle.src_procs.specs.Prelude.{inlined_file, File, IsFirstCallFault, ExplainsInlining}
-use Rattle.src_procs.specs.declared.errors.InlineError.{InlineError}
-use Rattle.src_procs.proofs.CallCauses.{one-cause}
+use Rattle.procs_tree.specs.Prelude.{inlined_file, File, IsFirstCallFault, ExplainsInlining}
+use Rattle.procs_tree.specs.declared.errors.InlineError.{InlineError}
+use Rattle.procs_tree.proofs.CallCauses.{one-cause}
 use Rattle.src_tree.specs.Prelude.{Source, first_fault}
 use Rattle.src_tree.specs.declared.faults.TypeError.{TypeError}
 use Rattle.src_tree.proofs.FirstFaults.{caused}
@@ -27,7 +27,7 @@ use Rattle.call_replies.specs.declared.source_faults.SourceFault.{SourceFault}
 use Rattle.call_laws.specs.Prelude.{OneSource}
 use Rattle.call_steps.specs.Prelude.{IsRight, WhichSource, AreProgram, Spells, SpellsTyped, IsFileFault, NoFile, InCalls, IsTokensFault, IsFirstSourceFault, InPieces, InTokens, InProgram, piece_fault, token_fault, shown_call_fault, program_fault}
 use Rattle.src_parser.specs.declared.errors.ParseFault.TheVariants as error
-use Rattle.src_procs.specs.declared.errors.InlineError.TheVariants as calls
+use Rattle.procs_tree.specs.declared.errors.InlineError.TheVariants as calls
 use Rattle.src_tree.specs.declared.faults.TypeError.TheVariants as program
 
 some-once : {A : Type 0} (x : Option A) (a b : A) → x ≡ Some a → x ≡ Some b → a ≡ b

@@ -9,9 +9,9 @@ use Rattle.src_parser.proofs.Refused.{program_laws}
 use Rattle.procs_parser.specs.Prelude.{SpellsFile}
 use Rattle.procs_parser.proofs.FileLaws.{file_laws}
 use Rattle.procs_parser.proofs.PlainNames.{file_plain}
-use Rattle.src_procs.specs.Prelude.{inlined_file, inline_fault, File}
-use Rattle.src_procs.specs.declared.errors.InlineError.{InlineError}
-use Rattle.src_procs.proofs.CallCauses.{cause as call-cause, not-caused}
+use Rattle.procs_tree.specs.Prelude.{inlined_file, inline_fault, File}
+use Rattle.procs_tree.specs.declared.errors.InlineError.{InlineError}
+use Rattle.procs_tree.proofs.CallCauses.{cause as call-cause, not-caused}
 use Rattle.src_tree.specs.Prelude.{first_fault, Source}
 use Rattle.src_tree.specs.declared.faults.TypeError.{TypeError}
 use Rattle.src_tree.proofs.Faultless.{fine}
@@ -24,8 +24,8 @@ use Rattle.call_laws.proofs.ParsedTokens.{Outcome, IsSentence, IsStray, IsDeeper
 use Rattle.call_laws.proofs.ToldFaults.{IsTold, IsToldCall, type-told, inline-told}
 use Rattle.src_lexer.specs.declared.errors.LexFault.TheVariants as piece
 use Rattle.src_parser.specs.declared.errors.ParseFault.TheVariants as token
-use Rattle.src_procs.specs.declared.errors.InlineError.TheVariants as calls
-use Rattle.src_procs.proofs.Judged as files
+use Rattle.procs_tree.specs.declared.errors.InlineError.TheVariants as calls
+use Rattle.procs_tree.proofs.Judged as files
 use Rattle.src_tree.specs.declared.faults.TypeError.TheVariants as program
 use Rattle.call_replies.specs.declared.source_faults.SourceFault.TheVariants as fault
 

@@ -3,8 +3,8 @@ use Rattle.std.specs.Prelude.{◌≡◌, ℕ, Bool, true, false, List, length, t
 use Rattle.std.specs.Option.{option_map}
 use Rattle.src_tree.specs.Meaning.{Store, meaning}
 use Rattle.src_tree.specs.Trees.{Source}
-use Rattle.src_procs.specs.Trees.{File}
-use Rattle.src_procs.specs.CallMeaning.{call_meaning}
+use Rattle.procs_tree.specs.Trees.{File}
+use Rattle.procs_tree.specs.CallMeaning.{call_meaning}
 use Rattle.call_laws.specs.CompiledRuns.{IsStoreOf}
 use Rattle.call_steps.specs.Sources.{Spells, SpellsCalls}
 

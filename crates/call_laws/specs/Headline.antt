@@ -22,7 +22,7 @@ use Rattle.src_parser.specs.Refusals.{token_kinds}
 use Rattle.src_parser.specs.Source.{SpellsSource}
 use Rattle.procs_parser.specs.FileGrammar.{SpellsFile}
 use Rattle.flow_types.specs.Wants.{declared_wants}
-use Rattle.src_procs.specs.Trees.{File}
+use Rattle.procs_tree.specs.Trees.{File}
 use Rattle.src_tree.specs.Meaning.{Store, meaning}
 use Rattle.src_tree.specs.Trees.{Source}
 use Rattle.src_tree.specs.declared.trees.Decl.{Decl}

@@ -16,7 +16,7 @@ use Rattle.src_parser.specs.Refusals.{token_kinds}
 use Rattle.src_parser.specs.declared.errors.ParseFault.{ParseFault}
 use Rattle.procs_parser.specs.FileGrammar.{SpellsFile}
 use Rattle.procs_parser.specs.FileRefusals.{ExplainsFile}
-use Rattle.src_procs.specs.Trees.{File}
+use Rattle.procs_tree.specs.Trees.{File}
 use Rattle.src_tree.specs.Trees.{Source}
 use Rattle.call_replies.specs.declared.source_faults.SourceFault.{SourceFault}
 use Rattle.call_laws.specs.Assemble.{assemble_work}

@@ -5,8 +5,8 @@ use Rattle.src_parser.specs.Prelude.{ExplainsTokens, ExplainsText, ExplainsTextB
 use Rattle.src_parser.specs.declared.errors.ParseFault.{ParseFault}
 use Rattle.src_parser.specs.declared.errors.TextFault.{TextFault}
 use Rattle.procs_parser.specs.Prelude.{ExplainsFile, ExplainsFileText, SpellsFileText}
-use Rattle.src_procs.specs.Prelude.{File, ExplainsInlining}
-use Rattle.src_procs.specs.declared.errors.InlineError.{InlineError}
+use Rattle.procs_tree.specs.Prelude.{File, ExplainsInlining}
+use Rattle.procs_tree.specs.declared.errors.InlineError.{InlineError}
 use Rattle.call_replies.specs.declared.source_faults.SourceFault.{SourceFault}
 use Rattle.call_steps.specs.Prelude.{IsFirstSourceFault, InTokens, IsTokensFault, NoFile, InCalls, token_fault, text_fault, shown_call_fault}
 use Rattle.call_steps.proofs.Saying.{piece-first}

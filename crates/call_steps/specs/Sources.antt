@@ -12,11 +12,11 @@ use Rattle.src_parser.specs.declared.errors.ParseFault.{ParseFault}
 use Rattle.src_parser.specs.declared.errors.TextFault.{TextFault}
 use Rattle.procs_parser.specs.FileGrammar.{SpellsFile}
 use Rattle.procs_parser.specs.FileRefusals.{ExplainsFile}
-use Rattle.src_procs.specs.Trees.{File}
-use Rattle.src_procs.specs.Inlined.{inlined_file}
-use Rattle.src_procs.specs.CallCauses.{IsFirstCallFault, ExplainsInlining}
-use Rattle.src_procs.specs.Promise.{KeepsMeaning}
-use Rattle.src_procs.specs.declared.errors.InlineError.{InlineError}
+use Rattle.procs_tree.specs.Trees.{File}
+use Rattle.procs_tree.specs.Inlined.{inlined_file}
+use Rattle.procs_tree.specs.CallCauses.{IsFirstCallFault, ExplainsInlining}
+use Rattle.procs_tree.specs.Promise.{KeepsMeaning}
+use Rattle.procs_tree.specs.declared.errors.InlineError.{InlineError}
 use Rattle.src_tree.specs.Trees.{Source}
 use Rattle.src_tree.specs.Typing.{IsTyped}
 use Rattle.src_tree.specs.Limits.{IsWithinLimits}
@@ -26,7 +26,7 @@ use Rattle.call_replies.specs.declared.source_faults.SourceFault.{SourceFault}
 use Rattle.src_lexer.specs.declared.errors.LexFault.TheVariants as piece
 use Rattle.src_parser.specs.declared.errors.ParseFault.TheVariants as token
 use Rattle.src_parser.specs.declared.errors.TextFault.TheVariants as text
-use Rattle.src_procs.specs.declared.errors.InlineError.TheVariants as calls
+use Rattle.procs_tree.specs.declared.errors.InlineError.TheVariants as calls
 use Rattle.src_tree.specs.declared.faults.TypeError.TheVariants as program
 use Rattle.call_replies.specs.declared.source_faults.SourceFault.TheVariants as fault
 

@@ -3,9 +3,9 @@ ghost use Rattle.call_steps.specs.Sources.{shown_call_fault, program_fault, text
 
 use call_replies::source_faults::SourceFault;
 use flow_types::TypeError;
+use procs_tree::InlineError;
 use src_lexer::LexFault;
 use src_parser::{ParseFault, TextFault};
-use src_procs::InlineError;
 
 /// The fault of a text as it is shown.
 pub(crate) fn text_fault(fault: TextFault) -> Option<SourceFault>

@@ -16,7 +16,8 @@ use object_faults::{
     Core, explain_assembly, explain_bus, explain_file, explain_inference, explain_refusal,
     object_in,
 };
-use source_faults::{Room, explain_source, warn_of_source};
+use source_faults::{Room, explain_source};
+use source_warnings::warn_of_source;
 use std::alloc::Global;
 use std::marker::Model;
 
@@ -155,21 +156,20 @@ impl<'a, 'b> Call<'a, 'b> {
     fn put_spent(&self, out: &mut Words) {
         if self.verb() == "eval" {
             out.fill(
-                "The loops reached the limit of {} iterations. Raise it with --turns N, or check for an endless \
+                "The evaluation reached the limit of iterations, {}. Raise it with --turns N, or check for an endless \
                 loop.\n",
                 &[self.number_of("--turns", USUAL_LIMIT)],
             )
         } else {
             out.fill(
-                "The run reached the limit of {} cycles. Raise it with --cycles N, or check for an endless loop.\n",
+                "The run reached the limit of cycles, {}. Raise it with --cycles N, or check for an endless loop.\n",
                 &[self.number_of("--cycles", USUAL_LIMIT)],
             )
         }
     }
 
-    /// What the fault means, by the files that were read again: nothing where nothing can be said. If the call did its work,
-    /// these are warnings of what its source and its inputs may not mean. The text is ASCII, and nothing in it acts on a
-    /// terminal.
+    /// What the fault means, by the files that the call read; empty if nothing is known. If the call did its work, these are
+    /// warnings about its source and its inputs. The text is ASCII, and nothing in it acts on a terminal.
     pub fn explained(&self, alloc: Global, files: &[File<'_>]) -> Result<Vec<u8>, Memory>
         ensures plain { IfOk result (λ text. All IsPlain text.items) }
     {

@@ -7,7 +7,7 @@ use gr_outside::Shelf;
 use run_tools::reports::{Outcome, Report, Tool};
 use run_tools::sources::{SourceWords, read_source, source_in_words};
 use run_tools::words::OF_SOURCE;
-use source_faults::without_calls;
+use shown_programs::without_calls;
 use std::alloc::Global;
 
 /// The tool `expand SRC`: prints a program with procedures as a program without calls. Each variable that a call adds is

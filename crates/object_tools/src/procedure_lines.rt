@@ -1,7 +1,7 @@
 //! The lines of a file with procedures, for the statements of its program without calls.
 
 use gr_base::Memory;
-use src_procs::{PStmt, Param, Proc, ProcFile};
+use procs_tree::{PStmt, Param, Proc, ProcFile};
 use std::alloc::Global;
 use std::collections::BTreeMap;
 

@@ -4,7 +4,7 @@ ghost use Rattle.std.specs.Prelude.{◌≤◌, IfOk, length};
 
 use gr_base::Memory;
 use gr_word::{Label, Name};
-use source_faults::{WithoutCalls, without_calls};
+use shown_programs::{WithoutCalls, without_calls};
 use src_lexer::{Kind, LexError, Token, lex};
 use src_tree::{Decl, Program};
 use std::alloc::Global;

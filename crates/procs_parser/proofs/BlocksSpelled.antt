@@ -1,7 +1,7 @@
 -- The statements of files by their grammar, as those of any language.
 use Rattle.std.proofs.Common.{◌≡◌, ℕ, List, [], ◌∷◌, ◌++◌, refl, ap, subst, append_assoc}
 use Rattle.src_lexer.specs.declared.tokens.Kind.{Kind}
-use Rattle.src_procs.specs.Prelude.{Statement, Choice, Loop, Call, Block, Nothing, Then, block_of}
+use Rattle.procs_tree.specs.Prelude.{Statement, Choice, Loop, Call, Block, Nothing, Then, block_of}
 use Rattle.src_parser.specs.Prelude.{Limits}
 use Rattle.src_parser.proofs.Spelled.{Spelled, NoneLeft, Assigns, Stores, Decides, DecidesElse, Loops, Adds, spelled_at}
 use Rattle.procs_parser.specs.Prelude.{with_calls, SpellsBlock, Ends, Sets, Puts, Calls, Chooses, ChoosesElse, Repeats}

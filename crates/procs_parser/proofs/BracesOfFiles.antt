@@ -3,7 +3,7 @@ use Rattle.std.proofs.Common.{◌≡◌, ℕ, ◌+◌, Bool, true, false, List, 
 use Rattle.std.specs.Prelude.{nat_lt, bytes_eq, if◌then◌else◌}
 use Rattle.src_lexer.specs.declared.tokens.Kind.{Kind}
 use Rattle.src_tree.specs.declared.trees.Decl.{Decl}
-use Rattle.src_procs.specs.Prelude.{Statement, Parameter, Procedure}
+use Rattle.procs_tree.specs.Prelude.{Statement, Parameter, Procedure}
 use Rattle.procs_parser.specs.Prelude.{proc_word, CallStep, Still, Done, call_advanced, ParserState, Between, Declaring, Doing, Calling, Naming, Front, Outside, InProcedure, HeadPhase, Opening, NoneYet, OneMore, ScalarLabelled, ScalarTyped, ArrayTyped, ArrayTitled, ArrayClosing, Behind, AllRead, LocalFresh, LocalLabelled, LocalTyped, LocalTitled, front_depth, with_calls, head_depth, performs, ending, brace_next, target_of, bracket_next, opening, word_next, statement_next, with_call, between, parameter_begins, names_next, is_hidden_token, taken, with_heading, advanced, open_braces}
 use Rattle.src_parser.specs.Prelude.{Limits, HeadingState, Begun, Declared, heading_advanced, Outer, Phase, Ready, MayElse, Blocks, Among, performed, is_complete, complete_of, depth_in, depth_of, Advance, Goes, Wrong}
 use Rattle.src_parser.proofs.Tokenwise.{Counted}

@@ -3,7 +3,7 @@ use Rattle.std.proofs.Common.{◌≡◌, ℕ, ◌+◌, List, [], ◌∷◌, ◌+
 use Rattle.std.proofs.lemmas.List.{append-nil}
 use Rattle.src_lexer.specs.declared.tokens.Kind.{Kind}
 use Rattle.src_tree.specs.Prelude.{Tree}
-use Rattle.src_procs.specs.Prelude.{Statement, Call}
+use Rattle.procs_tree.specs.Prelude.{Statement, Call}
 use Rattle.src_parser.specs.Prelude.{Limits, operators, SpellsTree, Reading, At, Wanted, TokenStep, Moves, Stops, Deep, reads, whole, used_of, Advance, Goes}
 use Rattle.src_parser.proofs.Held.{HasNoName, no_name_in_both, Start}
 use Rattle.src_parser.proofs.Reached.{Reached, Wants, reaches, Ended, ends, Fitting, fitting}

@@ -3,7 +3,7 @@ use Rattle.std.proofs.Common.{◌≡◌, ℕ, ◌<◌, List, [], ◌∷◌, ◌+
 use Rattle.std.proofs.lemmas.List.{append-nil}
 use Rattle.src_lexer.specs.declared.tokens.Kind.{Kind}
 use Rattle.src_tree.specs.declared.trees.Decl.{Decl}
-use Rattle.src_procs.specs.Prelude.{Statement, Nothing, Parameter, Procedure, File, block_of}
+use Rattle.procs_tree.specs.Prelude.{Statement, Nothing, Parameter, Procedure, File, block_of}
 use Rattle.procs_parser.specs.Prelude.{HasNoHiddenName, SpellsParameter, AScalar, AnArray, Parameters, NoParameter, SomeParameters, Locals, NoLocal, proc_word, NoProcedure, SpellsBlock, Ends, ParserState, HeadPhase, Front, Outside, front_depth, with_calls, open_braces}
 use Rattle.src_parser.specs.Prelude.{Limits, keyword_of, Declares, Heading, Labelled, Typed, Titled, Sizing, Sized, Closing, Outer}
 use Rattle.src_parser.proofs.Held.{HasNoName}

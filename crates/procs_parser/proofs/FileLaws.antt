@@ -10,7 +10,7 @@ use Rattle.src_parser.proofs.Spelled.{Spelled}
 use Rattle.src_parser.proofs.StatementsStanding.{complete_spelled}
 use Rattle.src_parser.proofs.SeveralTokens.{stray_after, deeper_after}
 use Rattle.src_parser.proofs.Tokenwise.{Laws}
-use Rattle.src_procs.specs.Prelude.{Statement, File, Nothing, block_of}
+use Rattle.procs_tree.specs.Prelude.{Statement, File, Nothing, block_of}
 use Rattle.procs_parser.specs.Prelude.{HasNoHiddenName, SpellsFile, AFile, Ends, NoProcedure, ExplainsFile, ParserState, Between, Front, front_depth, with_calls, file_at, taken, is_hidden_token, program_of, open_braces}
 use Rattle.procs_parser.proofs.BlocksSpelled.{spelled_block}
 use Rattle.procs_parser.proofs.BracesOfFiles.{shown, counted}

@@ -4,7 +4,7 @@ use Rattle.gr_word.specs.declared.variables.Label.TheVariants.{Public, Secret}
 use Rattle.src_lexer.specs.declared.tokens.Kind.{Kind}
 use Rattle.src_tree.specs.declared.trees.Decl.{Decl}
 use Rattle.src_parser.specs.Prelude.{Limits, Declares, NoMore, Scalar, Array}
-use Rattle.src_procs.specs.Prelude.{File, ArePlain}
+use Rattle.procs_tree.specs.Prelude.{File, ArePlain}
 use Rattle.procs_parser.specs.Prelude.{HasNoHiddenName, SpellsFile, AFile}
 
 declares_plain : {tokens : List Kind} {decls : List Decl} → Declares tokens decls → (more : List Kind)

@@ -6,7 +6,7 @@ use Rattle.std.proofs.lemmas.Bool.{lt-ltb}
 use Rattle.gr_word.specs.declared.variables.Label.TheVariants.{Public, Secret}
 use Rattle.src_lexer.specs.declared.tokens.Kind.{Kind}
 use Rattle.src_tree.specs.declared.trees.Decl.{Decl}
-use Rattle.src_procs.specs.Prelude.{Block, Parameter, Procedure, File}
+use Rattle.procs_tree.specs.Prelude.{Block, Parameter, Procedure, File}
 use Rattle.src_parser.specs.Prelude.{Advance, Goes, Wrong, after_advance, with_braces, declared, Limits, Declares, NoMore, Scalar, Array, Among, Ready}
 use Rattle.procs_parser.specs.Prelude.{HasNoHiddenName, SpellsBlock, Ends, SpellsParameter, AScalar, AnArray, SpellsParameters, LastOne, Another, Parameters, NoParameter, SomeParameters, Locals, NoLocal, Local, Procedures, NoProcedure, AProcedure, SpellsFile, AFile, Between, Naming, Doing, NoneYet, OneMore, Behind, AllRead, LocalFresh, Outside, InProcedure, is_hidden_token, taken, advanced, program_of, ParserState}
 use Rattle.procs_parser.proofs.BlocksSpelled.{block_again}

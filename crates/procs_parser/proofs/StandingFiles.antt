@@ -4,7 +4,7 @@ use Rattle.std.proofs.lemmas.List.{append-nil}
 use Rattle.gr_word.specs.declared.variables.Label.{Label}
 use Rattle.src_lexer.specs.declared.tokens.Kind.{Kind}
 use Rattle.src_tree.specs.declared.trees.Decl.{Decl}
-use Rattle.src_procs.specs.Prelude.{Statement, Block, Parameter, Procedure, File}
+use Rattle.procs_tree.specs.Prelude.{Statement, Block, Parameter, Procedure, File}
 use Rattle.procs_parser.specs.Prelude.{SpellsParameter, SpellsParameters, LastOne, Another, Parameters, Locals, NoLocal, Local, proc_word, Procedures, NoProcedure, AProcedure, SpellsBlock, CallState, ParserState, Between, Declaring, Naming, Doing, Calling, HeadPhase, Opening, NoneYet, OneMore, ScalarLabelled, ScalarTyped, ArrayTyped, ArrayTitled, ArrayClosing, Behind, AllRead, LocalFresh, LocalLabelled, LocalTyped, LocalTitled, Front, Outside, InProcedure, front_depth, with_calls}
 use Rattle.src_parser.specs.Prelude.{Limits, keyword_of, Declares, Heading, Outer, Blocks}
 use Rattle.src_parser.proofs.HeadingTokens.{Heads}

@@ -2,7 +2,7 @@
 use Rattle.std.proofs.Common.{◌≡◌, ℕ, ◌+◌, ◌≤◌, Bool, true, false, List, [], ◌∷◌, ◌++◌, Option, refl, sym, ap, ◌∙◌, subst, append_assoc, arith}
 use Rattle.src_lexer.specs.declared.tokens.Kind.{Kind}
 use Rattle.src_tree.specs.Prelude.{Tree, Test}
-use Rattle.src_procs.specs.Prelude.{Statement, Block, File}
+use Rattle.procs_tree.specs.Prelude.{Statement, Block, File}
 use Rattle.src_parser.specs.Prelude.{Limits, operators, SpellsTree, Joined, Reading, At, Wanted, reads, Asked, Inside, Target, in_expression, Outer, Phase, Ready, MayElse, InPart, Blocks, Among, chosen, with_part, performed, is_complete, Goes, after_advance, mapped}
 use Rattle.src_parser.proofs.Complete.{Runs, complete}
 use Rattle.src_parser.proofs.PartRead.{right_paren, semicolon}

@@ -7,7 +7,7 @@ use Rattle.std.proofs.lemmas.Bool.{ltb-true}
 use Rattle.gr_word.specs.declared.variables.Label.TheVariants.{Public, Secret}
 use Rattle.src_lexer.specs.declared.tokens.Kind.{Kind}
 use Rattle.src_tree.specs.declared.trees.Decl.{Decl}
-use Rattle.src_procs.specs.Prelude.{Statement, Parameter, Procedure}
+use Rattle.procs_tree.specs.Prelude.{Statement, Parameter, Procedure}
 use Rattle.procs_parser.specs.Prelude.{AScalar, AnArray, Parameters, NoParameter, SomeParameters, Locals, NoLocal, NoProcedure, proc_word, CallStep, Still, Done, call_advanced, ParserState, Between, Doing, HeadPhase, NoneYet, LocalFresh, Front, Outside, InProcedure, front_depth, with_calls, performs, ending, brace_next, target_of, bracket_next, opening, word_next, statement_next, with_call, starts, parameter_begins, names_next, between, with_heading, advanced}
 use Rattle.src_parser.specs.Prelude.{Limits, Declares, NoMore, HeadingState, Begun, Declared, heading_advanced, Outer, Phase, Ready, Blocks, Among, performed, is_complete, complete_of, Goes, with_braces}
 use Rattle.src_parser.proofs.Braces.{mapped_goes}

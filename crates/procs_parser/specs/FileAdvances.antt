@@ -4,9 +4,9 @@ use Rattle.gr_word.specs.declared.variables.Label.{Label}
 use Rattle.gr_word.specs.declared.variables.Label.TheVariants.{Public, Secret}
 use Rattle.src_lexer.specs.declared.tokens.Kind.{Kind}
 use Rattle.src_tree.specs.declared.trees.Decl.{Decl}
-use Rattle.src_procs.specs.Trees.{Statement, SetVariable, SetElement, Choice, Loop, Call, Nothing, Parameter, OfValue, OfVariable, Procedure, File}
-use Rattle.src_procs.specs.Inlined.{is_hidden}
-use Rattle.src_procs.specs.Seen.{block_of}
+use Rattle.procs_tree.specs.Trees.{Statement, SetVariable, SetElement, Choice, Loop, Call, Nothing, Parameter, OfValue, OfVariable, Procedure, File}
+use Rattle.procs_tree.specs.Inlined.{is_hidden}
+use Rattle.procs_tree.specs.Seen.{block_of}
 use Rattle.src_parser.specs.Grammar.{Limits}
 use Rattle.src_parser.specs.Headings.{Heading, Labelled, HeadingState, Begun, Declared, declared, heading_advanced}
 use Rattle.src_parser.specs.Parts.{Target}

@@ -7,8 +7,8 @@ use Rattle.src_lexer.specs.declared.tokens.Kind.{Kind}
 use Rattle.src_tree.specs.declared.trees.Decl.{Decl}
 use Rattle.src_tree.specs.Trees.{Tree, Test}
 use Rattle.src_parser.specs.Grammar.{Limits, keyword_of, operators, SpellsTree, Compares, Declares}
-use Rattle.src_procs.specs.Trees.{SetVariable, SetElement, Choice, Loop, Call, Block, Nothing, Then, Parameter, OfValue, OfVariable, Procedure, File}
-use Rattle.src_procs.specs.Inlined.{is_hidden}
+use Rattle.procs_tree.specs.Trees.{SetVariable, SetElement, Choice, Loop, Call, Block, Nothing, Then, Parameter, OfValue, OfVariable, Procedure, File}
+use Rattle.procs_tree.specs.Inlined.{is_hidden}
 use Rattle.src_lexer.specs.declared.tokens.Kind.TheVariants as kind
 
 -- no name begins with `__`

@@ -4,7 +4,7 @@ use Rattle.src_parser.specs.Grammar.{limits}
 use Rattle.src_parser.specs.Refusals.{token_kinds}
 use Rattle.src_parser.specs.Source.{HasTokens, ExplainsTextBy}
 use Rattle.src_parser.specs.declared.errors.TextFault.{TextFault}
-use Rattle.src_procs.specs.Trees.{File}
+use Rattle.procs_tree.specs.Trees.{File}
 use Rattle.procs_parser.specs.FileGrammar.{SpellsFile}
 use Rattle.procs_parser.specs.FileRefusals.{ExplainsFile}
 

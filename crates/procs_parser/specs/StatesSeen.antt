@@ -4,8 +4,8 @@ use Rattle.src_lexer.specs.declared.tokens.Kind.{Kind}
 use Rattle.src_parser.specs.Grammar.{limits}
 use Rattle.src_parser.specs.Seen.{among, heading_of, outers_of, phase_of, reading_of}
 use Rattle.src_parser.specs.Tokenwise.{Advance}
-use Rattle.src_procs.specs.declared.trees.PStmt.{PStmt}
-use Rattle.src_procs.specs.Seen.{statement_of, trees_of, parameter_of, procedure_of}
+use Rattle.procs_tree.specs.declared.trees.PStmt.{PStmt}
+use Rattle.procs_tree.specs.Seen.{statement_of, trees_of, parameter_of, procedure_of}
 use Rattle.procs_parser.specs.Calls.{CallPhase, Opened, Argument, Called, CallState, InCall, CallStep, Still, Done}
 use Rattle.procs_parser.specs.FileAdvances.{HeadPhase, Opening, NoneYet, OneMore, ScalarLabelled, ScalarTyped, ArrayTyped, ArrayTitled, ArrayClosing, Behind, AllRead, LocalFresh, LocalLabelled, LocalTyped, LocalTitled, Front, Outside, InProcedure, ParserState, Between, Declaring, Naming, Doing, Calling, names_next}
 use Rattle.procs_parser.specs.declared.states.CallPhase as call_phases

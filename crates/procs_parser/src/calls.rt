@@ -1,7 +1,7 @@
 ghost use Rattle.std.specs.Prelude.{◌≡◌, IfOk, option_map};
 ghost use Rattle.src_tree.specs.Prelude.{expr_tree};
 ghost use Rattle.src_parser.specs.Prelude.{limits, reads, reading_of};
-ghost use Rattle.src_procs.specs.Prelude.{trees_of};
+ghost use Rattle.procs_tree.specs.Prelude.{trees_of};
 ghost use Rattle.procs_parser.specs.Calls.{argument_ends, behind_argument, call_advanced, in_argument, InCall};
 ghost use Rattle.procs_parser.specs.StatesSeen.{call_advance_of, call_phase_of};
 

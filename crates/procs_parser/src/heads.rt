@@ -1,16 +1,16 @@
 ghost use Rattle.std.specs.Prelude.{◌≡◌, ◌++◌, ◌∷◌, [], IfOk, None, map};
 ghost use Rattle.src_parser.specs.Prelude.{limits, Goes, declared};
 ghost use Rattle.procs_parser.specs.FileAdvances.{parameter_begins, Behind, ScalarTyped, ArrayTyped, ArrayTitled, NoneYet, LocalFresh, LocalTyped};
-ghost use Rattle.src_procs.specs.Prelude.{parameter_of, procedure_of};
+ghost use Rattle.procs_tree.specs.Prelude.{parameter_of, procedure_of};
 ghost use Rattle.procs_parser.specs.StatesSeen.{advance_of, state_of, named, head_next, head_phase_of};
 
 use crate::declarations::start_statements;
 use crate::states::{FileAdvance, Front, Head, HeadPhase, ParserState, Start};
 use gr_base::Memory;
 use gr_word::{Label, Name};
+use procs_tree::Param;
 use src_lexer::Kind;
 use src_parser::putting::put;
-use src_procs::Param;
 use src_tree::Decl;
 use std::alloc::Global;
 

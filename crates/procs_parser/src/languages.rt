@@ -1,18 +1,18 @@
 ghost use Rattle.std.specs.Prelude.{◌≡◌, map};
 ghost use Rattle.src_tree.specs.Prelude.{expr_tree, test_of};
-ghost use Rattle.src_procs.specs.Prelude.{statement_of};
+ghost use Rattle.procs_tree.specs.Prelude.{statement_of};
 ghost use Rattle.procs_parser.specs.FileAdvances.{with_calls};
 
 use gr_word::Name;
+use procs_tree::PStmt;
 use src_parser::languages::Language;
-use src_procs::PStmt;
 use src_tree::{Expr, Guard};
 
 // The language of files with procedures.
 pub(crate) struct ProcFiles;
 
 impl Language for ProcFiles {
-    ghost use Rattle.src_procs.specs.Trees.{Statement};
+    ghost use Rattle.procs_tree.specs.Trees.{Statement};
 
     type Stmt = PStmt;
 

@@ -3,7 +3,7 @@ ghost use Rattle.src_lexer.specs.declared.tokens.Token.{Token};
 ghost use Rattle.src_lexer.specs.declared.tokens.Kind.{Kind};
 ghost use Rattle.src_parser.specs.Prelude.{limits, token_kinds};
 ghost use Rattle.src_parser.specs.declared.errors.ParseFault.{ParseFault};
-ghost use Rattle.src_procs.specs.Prelude.{File};
+ghost use Rattle.procs_tree.specs.Prelude.{File};
 ghost use Rattle.procs_parser.specs.FileGrammar.{SpellsFile};
 ghost use Rattle.procs_parser.specs.FileRefusals.{ExplainsFile};
 

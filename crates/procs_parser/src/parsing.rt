@@ -6,7 +6,7 @@ ghost use Rattle.procs_parser.specs.FileGrammar.{SpellsFile};
 ghost use Rattle.procs_parser.specs.FileRefusals.{ExplainsFile};
 ghost use Rattle.procs_parser.specs.FileText.{ExplainsFileText, SpellsFileText};
 ghost use Rattle.procs_parser.specs.FileAdvances.{advanced, taken, is_hidden_token, file_at, program_of, Doing};
-ghost use Rattle.src_procs.specs.Prelude.{ArePlain, file_of, statement_of};
+ghost use Rattle.procs_tree.specs.Prelude.{ArePlain, file_of, statement_of};
 ghost use Rattle.procs_parser.specs.StatesSeen.{advance_of, front_of, start_of, state_of};
 
 use crate::declarations::{begin_declaration, declare};
@@ -15,12 +15,12 @@ use crate::languages::ProcFiles;
 use crate::statements::read_statement;
 use crate::states::{CallPhase, FileAdvance, Front, HeadPhase, Mode, ParserState, Start};
 use gr_base::{Fail, Memory};
+use procs_tree::{PStmt, ProcFile, is_hidden};
 use src_lexer::{Kind, Token};
 use src_parser::putting::put;
 use src_parser::statements::complete;
 use src_parser::states::{Blocks, Phase};
 use src_parser::{ParseError, ParseFault, TextFault, TokenReader, read_text, read_tree};
-use src_procs::{PStmt, ProcFile, is_hidden};
 use std::alloc::Global;
 use std::mem;
 
@@ -186,7 +186,7 @@ pub struct FileReader {
 impl TokenReader for FileReader {
     ghost use Rattle.std.specs.Prelude.{[]};
     ghost use Rattle.src_parser.specs.Prelude.{limits, ReadsTo, token_kinds};
-    ghost use Rattle.src_procs.specs.Prelude.{file_of};
+    ghost use Rattle.procs_tree.specs.Prelude.{file_of};
     ghost use Rattle.procs_parser.specs.FileAdvances.{taken, Between};
     ghost use Rattle.procs_parser.specs.FileGrammar.{SpellsFile};
     ghost use Rattle.procs_parser.specs.FileRefusals.{ExplainsFile};

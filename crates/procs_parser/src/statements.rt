@@ -1,6 +1,6 @@
 ghost use Rattle.std.specs.Prelude.{◌≡◌, [], IfOk, Some, bytes_eq, map};
 ghost use Rattle.src_parser.specs.Prelude.{limits, among, outers_of, phase_of, complete_of, Among, Ready};
-ghost use Rattle.src_procs.specs.Prelude.{statement_of};
+ghost use Rattle.procs_tree.specs.Prelude.{statement_of};
 ghost use Rattle.procs_parser.specs.FileAdvances.{advanced, ending, front_depth, opening, performs, target_of, with_calls, Doing};
 ghost use Rattle.procs_parser.specs.FileGrammar.{proc_word};
 ghost use Rattle.procs_parser.specs.StatesSeen.{advance_of, doing, front_of, opened};
@@ -10,12 +10,12 @@ use crate::languages::ProcFiles;
 use crate::states::{CallAdvance, CallPhase, FileAdvance, Front, Head, Mode};
 use gr_base::Memory;
 use gr_word::Name;
+use procs_tree::{PStmt, Proc};
 use src_lexer::Kind;
 use src_parser::parts::{Lead, Part};
 use src_parser::putting::put;
 use src_parser::statements::{complete, is_complete, perform};
 use src_parser::states::{Advance, Blocks, Pause, Phase};
-use src_procs::{PStmt, Proc};
 use std::alloc::Global;
 use std::mem;
 

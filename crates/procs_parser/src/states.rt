@@ -1,8 +1,8 @@
 use gr_word::{Label, Name};
+use procs_tree::{PStmt, Param, Proc};
 use src_parser::headings::Heading;
 use src_parser::readings::Reading;
 use src_parser::states::{Blocks, Phase};
-use src_procs::{PStmt, Param, Proc};
 use src_tree::{Decl, Expr};
 
 // How far a call was read: up to its `(`, in an argument, or up to its `)`.

@@ -4,8 +4,8 @@ use crate::case_problems::{Problem, quoted, stating};
 use crate::variables::push_name;
 use gr_base::Memory;
 use gr_word::{Shape, Want};
+use procs_tree::is_hidden;
 use serde_json::Value;
-use src_procs::is_hidden;
 use std::alloc::Global;
 
 /// The most variables that a line names.

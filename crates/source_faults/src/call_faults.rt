@@ -1,11 +1,10 @@
 //! Why the calls of a file with procedures can't be replaced.
 
-use crate::hints::{OUTPUT, PRINTING};
-use crate::procedures::{Procedure, Procedures};
-use crate::tokens::Tokens;
 use fault_texts::{Nearest, Words, is_word_of, length_up_to, piece, spot_at};
 use gr_base::Memory;
-use src_procs::InlineError;
+use procs_tree::InlineError;
+use source_tokens::hints::{OUTPUT, PRINTING};
+use source_tokens::{Procedure, Procedures, Tokens};
 use std::alloc::Global;
 use std::collections::BTreeMap;
 
@@ -32,17 +31,17 @@ fn explain_fault(
     let procedures = Procedures::of(alloc, tokens)?;
     match fault {
         InlineError::TwiceNamed(number) => {
-            return procedures.put_twice_named(alloc, number, out);
+            return put_twice_named(alloc, &procedures, number, out);
         }
-        InlineError::Undeclared(number) => return procedures.put_unbound(alloc, number, out),
+        InlineError::Undeclared(number) => return put_unbound(alloc, &procedures, number, out),
         InlineError::NoProcedure(number) => {
-            return procedures.put_no_procedure(alloc, tokens.named(number, false), out);
+            return put_no_procedure(alloc, &procedures, tokens.named(number, false), out);
         }
         InlineError::WrongCount(number) => {
-            procedures.put_wrong_count(tokens.named(number, false), out)
+            put_wrong_count(&procedures, tokens.named(number, false), out)
         }
         InlineError::NotAnArray(number) => {
-            procedures.put_not_a_name(tokens.named(number, false), out)
+            put_not_a_name(&procedures, tokens.named(number, false), out)
         }
         InlineError::TooLarge => {
             out.name(tokens.name);
@@ -57,180 +56,193 @@ fn explain_fault(
     Ok(())
 }
 
-impl Procedures<'_> {
-    // The procedure of a number, from 0.
-    fn numbered(&self, number: u32) -> Option<Procedure> {
-        self.all.get(number as usize).copied()
-    }
+// The procedure of a number, from 0.
+fn numbered(procedures: &Procedures<'_>, number: u32) -> Option<Procedure> {
+    procedures.all.get(number as usize).copied()
+}
 
-    // The procedure in whose statements a token is.
-    fn around(&self, at: usize) -> Option<Procedure> {
-        for procedure in &self.all {
-            if procedure.name < at && at < procedure.end {
-                return Some(*procedure);
-            }
+// The procedure in whose statements a token is.
+fn around(procedures: &Procedures<'_>, at: usize) -> Option<Procedure> {
+    for procedure in &procedures.all {
+        if procedure.name < at && at < procedure.end {
+            return Some(*procedure);
         }
-        None
     }
+    None
+}
 
-    // A procedure with the name of an earlier one, or with one name for two of its parameters and locals.
-    fn put_twice_named(&self, alloc: Global, number: u32, out: &mut Words) -> Result<(), Memory> {
-        let tokens = self.tokens;
-        let Some(procedure) = self.numbered(number) else {
-            return Ok(());
-        };
-        let (first, second) = match self.earlier(procedure) {
-            Some(earlier) => (Some(earlier.name), procedure.name),
-            None => match tokens.own_names(alloc, procedure)? {
-                (_, Some((first, second))) => (Some(first), second),
-                (_, None) => (None, procedure.name),
-            },
-        };
-        tokens.put(
-            second,
-            if second == procedure.name {
-                " is also the name of an earlier procedure"
-            } else {
-                " is declared twice in the procedure"
-            },
-            out,
-        );
-        if let Some(first) = first {
-            out.say("It is first declared at ");
-            tokens.put_where(first, out);
-            out.line(": give one of them another name.");
+// A procedure with the name of an earlier one, or with one name for two of its parameters and locals.
+fn put_twice_named(
+    alloc: Global,
+    procedures: &Procedures<'_>,
+    number: u32,
+    out: &mut Words,
+) -> Result<(), Memory> {
+    let tokens = procedures.tokens;
+    let Some(procedure) = numbered(procedures, number) else {
+        return Ok(());
+    };
+    let (first, second) = match earlier_of(procedures, procedure) {
+        Some(earlier) => (Some(earlier.name), procedure.name),
+        None => match own_names(alloc, tokens, procedure)? {
+            (_, Some((first, second))) => (Some(first), second),
+            (_, None) => (None, procedure.name),
+        },
+    };
+    tokens.put(
+        second,
+        if second == procedure.name {
+            " is also the name of an earlier procedure"
+        } else {
+            " is declared twice in the procedure"
+        },
+        out,
+    );
+    if let Some(first) = first {
+        out.say("It is first declared at ");
+        tokens.put_where(first, out);
+        out.line(": give one of them another name.");
+    }
+    Ok(())
+}
+
+// The first procedure before another that has its name.
+fn earlier_of(procedures: &Procedures<'_>, procedure: Procedure) -> Option<Procedure> {
+    let tokens = procedures.tokens;
+    for earlier in &procedures.all {
+        if earlier.name >= procedure.name {
+            break;
         }
-        Ok(())
-    }
-
-    // The first procedure before another that has its name.
-    fn earlier(&self, procedure: Procedure) -> Option<Procedure> {
-        let tokens = self.tokens;
-        for earlier in &self.all {
-            if earlier.name >= procedure.name {
-                break;
-            }
-            if tokens.word(earlier.name) == tokens.word(procedure.name) {
-                return Some(*earlier);
-            }
+        if tokens.word(earlier.name) == tokens.word(procedure.name) {
+            return Some(*earlier);
         }
-        None
     }
+    None
+}
 
-    // A name in a procedure that isn't one of its parameters and locals.
-    fn put_unbound(&self, alloc: Global, number: u32, out: &mut Words) -> Result<(), Memory> {
-        let tokens = self.tokens;
-        let Some(procedure) = self.numbered(number) else {
-            return Ok(());
-        };
-        let Some(at) = tokens.unbound_name(alloc, procedure)? else {
-            return Ok(());
-        };
-        let Some(own) = tokens.declaration_of(at) else {
-            tokens.put(at, " isn't a parameter or local of the procedure", out);
-            return put_near_own(alloc, tokens, procedure, at, out);
-        };
-        tokens.put(
-            at,
-            " is a variable of the file, which a procedure can't access",
-            out,
-        );
-        out.say("Give ");
-        tokens.tell(procedure.name, " the parameter `int ", out);
-        tokens.tell(at, "[]`, and pass it: `", out);
-        let is_only = procedure.params == procedure.close;
-        tokens.tell(procedure.name, if is_only { "(" } else { "(..; " }, out);
-        tokens.tell(
-            own.name,
-            if own.is_array {
-                ");`."
-            } else {
-                ");`. In the procedure that name, without an index, is then the variable."
-            },
-            out,
-        );
-        out.line("");
-        Ok(())
-    }
+// A name in a procedure that isn't one of its parameters and locals.
+fn put_unbound(
+    alloc: Global,
+    procedures: &Procedures<'_>,
+    number: u32,
+    out: &mut Words,
+) -> Result<(), Memory> {
+    let tokens = procedures.tokens;
+    let Some(procedure) = numbered(procedures, number) else {
+        return Ok(());
+    };
+    let Some(at) = unbound_name(alloc, tokens, procedure)? else {
+        return Ok(());
+    };
+    let Some(own) = tokens.declaration_of(at) else {
+        tokens.put(at, " isn't a parameter or local of the procedure", out);
+        return put_near_own(alloc, tokens, procedure, at, out);
+    };
+    tokens.put(
+        at,
+        " is a variable of the file: a procedure can only access its parameters and locals",
+        out,
+    );
+    out.say("Give ");
+    tokens.tell(procedure.name, " the parameter `int ", out);
+    tokens.tell(at, "[]`, and pass it: `", out);
+    let is_only = procedure.params == procedure.close;
+    tokens.tell(procedure.name, if is_only { "(" } else { "(..; " }, out);
+    tokens.tell(
+        own.name,
+        if own.is_array {
+            ");`."
+        } else {
+            ");`. In the procedure, use the parameter without an index."
+        },
+        out,
+    );
+    out.line("");
+    Ok(())
+}
 
-    // A call of no procedure that is declared before it.
-    fn put_no_procedure(&self, alloc: Global, at: usize, out: &mut Words) -> Result<(), Memory> {
-        let tokens = self.tokens;
-        let caller = self.around(at);
-        let Some(called) = self.called(at) else {
-            tokens.put(
-                at,
-                ": there is no procedure of this name before the call",
-                out,
-            );
-            return put_near_procedure(alloc, tokens, at, out);
-        };
-        let Some(caller) = caller else {
-            return Ok(());
-        };
-        if called.name == caller.name {
-            tokens.put(
-                at,
-                " calls itself, but a procedure can only call earlier ones",
-                out,
-            );
-            out.line("There is no recursion: write a loop, and keep pending values in an array.");
-            return Ok(());
-        }
+// A call of no procedure that is declared before it.
+fn put_no_procedure(
+    alloc: Global,
+    procedures: &Procedures<'_>,
+    at: usize,
+    out: &mut Words,
+) -> Result<(), Memory> {
+    let tokens = procedures.tokens;
+    let caller = around(procedures, at);
+    let Some(called) = procedures.called(at) else {
         tokens.put(
             at,
-            " is declared after this call, but a procedure can only call earlier ones",
+            ": there is no procedure of this name before the call",
             out,
         );
-        out.say("Move the procedure at ");
-        tokens.put_where(called.name, out);
-        out.say(" before the one at ");
-        tokens.put_where(caller.name, out);
-        out.line("; two procedures can't call each other.");
-        Ok(())
+        return put_near_procedure(alloc, tokens, at, out);
+    };
+    let Some(caller) = caller else {
+        return Ok(());
+    };
+    if called.name == caller.name {
+        tokens.put(
+            at,
+            " calls itself, but a procedure can only call earlier ones",
+            out,
+        );
+        out.line("There is no recursion: write a loop, and keep pending values in an array.");
+        return Ok(());
     }
+    tokens.put(
+        at,
+        " is declared after this call, but a procedure can only call earlier ones",
+        out,
+    );
+    out.say("Move the procedure at ");
+    tokens.put_where(called.name, out);
+    out.say(" before the one at ");
+    tokens.put_where(caller.name, out);
+    out.line("; two procedures can't call each other.");
+    Ok(())
+}
 
-    // A call with another number of arguments than its procedure has parameters.
-    fn put_wrong_count(&self, at: usize, out: &mut Words) {
-        let tokens = self.tokens;
-        let Some(called) = self.called(at) else {
-            return;
-        };
-        let wanted = tokens.count_params(called);
-        let given = tokens.count_arguments(at);
-        out.put_place(tokens.name, spot_at(tokens.text, tokens.start(at)));
-        tokens.tell(at, " takes ", out);
-        put_count(wanted, out);
-        out.fill(", but {} ", &[given]);
-        out.say(if given == 1 { "is given" } else { "are given" });
-        out.put_line(tokens.text, spot_at(tokens.text, tokens.start(at)));
-        put_head(tokens, called, out);
-    }
+// A call with another number of arguments than its procedure has parameters.
+fn put_wrong_count(procedures: &Procedures<'_>, at: usize, out: &mut Words) {
+    let tokens = procedures.tokens;
+    let Some(called) = procedures.called(at) else {
+        return;
+    };
+    let wanted = tokens.count_params(called);
+    let given = tokens.count_arguments(at);
+    out.put_place(tokens.name, spot_at(tokens.text, tokens.start(at)));
+    tokens.tell(at, " takes ", out);
+    put_count(wanted, out);
+    out.fill(", but {} ", &[given]);
+    out.say(if given == 1 { "is given" } else { "are given" });
+    out.put_line(tokens.text, spot_at(tokens.text, tokens.start(at)));
+    put_head(tokens, called, out);
+}
 
-    // An argument of an array parameter that isn't a bare name.
-    fn put_not_a_name(&self, at: usize, out: &mut Words) {
-        let tokens = self.tokens;
-        let Some(called) = self.called(at) else {
-            return;
-        };
-        let mut next = called.params;
-        for number in 0..tokens.all.len() {
-            if next >= called.close {
-                break;
-            }
-            let param = tokens.param_at(next);
-            let (first, end) = tokens.argument(at, number);
-            let is_bare = tokens.is_name(first) && end == first.saturating_add(1);
-            if param.declared.is_array && !is_bare {
-                out.put_place(tokens.name, spot_at(tokens.text, tokens.start(first)));
-                out.say("argument ");
-                tokens.tell(param.declared.name, "[] of ", out);
-                tokens.tell(at, " is an array, which is passed by its name only", out);
-                out.put_line(tokens.text, spot_at(tokens.text, tokens.start(first)));
-                return put_head(tokens, called, out);
-            }
-            next = param.next;
+// An argument of an array parameter that isn't a bare name.
+fn put_not_a_name(procedures: &Procedures<'_>, at: usize, out: &mut Words) {
+    let tokens = procedures.tokens;
+    let Some(called) = procedures.called(at) else {
+        return;
+    };
+    let mut next = called.params;
+    for number in 0..tokens.all.len() {
+        if next >= called.close {
+            break;
         }
+        let param = tokens.param_at(next);
+        let (first, end) = tokens.argument(at, number);
+        let is_bare = tokens.is_name(first) && end == first.saturating_add(1);
+        if param.declared.is_array && !is_bare {
+            out.put_place(tokens.name, spot_at(tokens.text, tokens.start(first)));
+            out.say("argument ");
+            tokens.tell(param.declared.name, "[] of ", out);
+            tokens.tell(at, " is an array, which is passed by its name only", out);
+            out.put_line(tokens.text, spot_at(tokens.text, tokens.start(first)));
+            return put_head(tokens, called, out);
+        }
+        next = param.next;
     }
 }
 
@@ -307,37 +319,39 @@ fn put_near_own(
     Ok(())
 }
 
-impl<'a> Tokens<'a> {
-    // The parameters and locals of a procedure by their names, and the first two that have one name.
-    fn own_names(
-        &self,
-        alloc: Global,
-        procedure: Procedure,
-    ) -> Result<(BTreeMap<&'a [u8], usize>, Option<(usize, usize)>), Memory> {
-        let mut names: BTreeMap<&'a [u8], usize> = BTreeMap::new(alloc);
-        for at in procedure.params..procedure.body.max(procedure.params) {
-            if !self.is_name(at) {
-                continue;
-            }
-            if let Some(first) = names.get(&self.word(at)).copied() {
-                return Ok((names, Some((first, at))));
-            }
-            if names.insert(self.word(at), at).is_err() {
-                return Err(Memory);
-            }
+// The parameters and locals of a procedure by their names, and the first two that have one name.
+fn own_names<'a>(
+    alloc: Global,
+    tokens: Tokens<'a>,
+    procedure: Procedure,
+) -> Result<(BTreeMap<&'a [u8], usize>, Option<(usize, usize)>), Memory> {
+    let mut names: BTreeMap<&'a [u8], usize> = BTreeMap::new(alloc);
+    for at in procedure.params..procedure.body.max(procedure.params) {
+        if !tokens.is_name(at) {
+            continue;
         }
-        Ok((names, None))
+        if let Some(first) = names.get(&tokens.word(at)).copied() {
+            return Ok((names, Some((first, at))));
+        }
+        if names.insert(tokens.word(at), at).is_err() {
+            return Err(Memory);
+        }
     }
+    Ok((names, None))
+}
 
-    // The first name in a procedure's statements that isn't one of its parameters and locals.
-    fn unbound_name(&self, alloc: Global, procedure: Procedure) -> Result<Option<usize>, Memory> {
-        let (names, _) = self.own_names(alloc, procedure)?;
-        for at in procedure.body..procedure.end.max(procedure.body) {
-            let is_called = self.is_call(at) && self.is_head(at);
-            if self.is_name(at) && !is_called && names.get(&self.word(at)).is_none() {
-                return Ok(Some(at));
-            }
+// The first name in a procedure's statements that isn't one of its parameters and locals.
+fn unbound_name(
+    alloc: Global,
+    tokens: Tokens<'_>,
+    procedure: Procedure,
+) -> Result<Option<usize>, Memory> {
+    let (names, _) = own_names(alloc, tokens, procedure)?;
+    for at in procedure.body..procedure.end.max(procedure.body) {
+        let is_called = tokens.is_call(at) && tokens.is_head(at);
+        if tokens.is_name(at) && !is_called && names.get(&tokens.word(at)).is_none() {
+            return Ok(Some(at));
         }
-        Ok(None)
     }
+    Ok(None)
 }

@@ -2,12 +2,9 @@
 //!
 //! A depth is a number of calls: the file's own statements have depth 0, those of a procedure that they call have depth 1.
 
-use crate::heads::Bound;
-use crate::procedures::{Counted, Frame, Origin, Place, Procedures};
-use crate::statements::Declared;
-use crate::tokens::Tokens;
 use fault_texts::{Words, spot_at};
 use gr_base::Memory;
+use source_tokens::{Bound, Counted, Declared, Frame, Origin, Place, Procedures, Tokens};
 use std::alloc::Global;
 
 /// The most calls that are named between a place and the outermost call.

@@ -2,23 +2,23 @@
 
 ghost use Rattle.std.specs.Prelude.{◌≤◌, ◌^◌, length};
 
-use crate::bytes::explain_byte;
 use crate::call_faults::explain_calls_fault;
-use crate::tokens::{SOURCE_BYTES, Tokens};
 use crate::typing::explain_typing;
-use crate::unexpected::explain_tokens;
 use bank_alloc::{PlaceError, banks};
 use fault_texts::{Source, Words};
 use flow_types::{TypeError, Typed, type_program};
 use gr_base::Fail;
 use gr_word::Label;
 use procs_parser::read_file;
+use procs_tree::InlineError;
 use resident_alloc::resident_plan;
+use source_tokens::{SOURCE_BYTES, Tokens};
 use src_lexer::{LexFault, lex};
 use src_parser::{ParseFault, TextFault, read_source};
-use src_procs::{InlineError, inline_owned};
+use src_procs::inline_owned;
 use src_tree::Program;
 use std::alloc::Global;
+use token_faults::{explain_byte, explain_tokens};
 
 /// Whether a program has to have room in blocks of 2^`block_log` words, `block_log` from 3 to 9, and whether for `--fast`.
 #[derive(Clone, Copy)]

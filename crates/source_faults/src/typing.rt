@@ -1,12 +1,11 @@
 //! Why a program isn't well typed, or which limit it passes.
 
 use crate::limits::of_limit;
-use crate::procedures::{Counted, Place, Procedures};
 use crate::sight::{Seen, Sight, Value};
-use crate::tokens::Tokens;
 use fault_texts::{Nearest, Words, is_word_of, length_up_to, piece, spot_at};
 use flow_types::{TypeError, Which};
 use gr_base::Memory;
+use source_tokens::{Counted, Place, Procedures, Tokens};
 use std::alloc::Global;
 
 /// The most bytes of a guard that are shown.
@@ -30,7 +29,7 @@ fn explain_fault(
     let procedures = Procedures::of(alloc, tokens)?;
     let number = match fault {
         TypeError::TwiceDeclared(number) => {
-            tokens.put_twice(u64::from(number), out);
+            put_twice(tokens, u64::from(number), out);
             return Ok(());
         }
         TypeError::Limit(limit, number) => {
@@ -50,80 +49,58 @@ fn explain_fault(
     Ok(())
 }
 
-impl Tokens<'_> {
-    // A declaration of a name that is declared before it.
-    fn put_twice(&self, number: u64, out: &mut Words) {
-        let at = self.declared_name(number);
-        self.put(at, " is declared twice", out);
-        if let Some(earlier) = self.declaration_of(at) {
-            let line = spot_at(self.text, self.start(earlier.name)).line;
-            out.fill(
-                "It is first declared in line {}: give one of them another name.\n",
-                &[line as u64],
-            );
+// A declaration of a name that is declared before it.
+fn put_twice(tokens: Tokens<'_>, number: u64, out: &mut Words) {
+    let at = tokens.declared_name(number);
+    tokens.put(at, " is declared twice", out);
+    if let Some(earlier) = tokens.declaration_of(at) {
+        let line = spot_at(tokens.text, tokens.start(earlier.name)).line;
+        out.fill(
+            "It is first declared in line {}: give one of them another name.\n",
+            &[line as u64],
+        );
+    }
+}
+
+// The declared name that is nearest to the name at a token, if one is near.
+fn nearest_declared<'a>(
+    alloc: Global,
+    tokens: Tokens<'a>,
+    at: usize,
+) -> Result<Option<&'a [u8]>, Memory> {
+    let mut nearest = Nearest::to(alloc, tokens.word(at))?;
+    for number in 0..MOST_VARIABLES {
+        let Some(declared) = tokens.declaration(number) else {
+            break;
+        };
+        nearest.compare(alloc, tokens.word(declared.name))?;
+    }
+    Ok(nearest.found())
+}
+
+// Says that a name is not declared, and how it is declared. `end` ends the declaration.
+fn put_undeclared(alloc: Global, tokens: Tokens<'_>, at: usize, end: &str, out: &mut Words) {
+    tokens.put(at, " is not declared", out);
+    if is_word_of(
+        "true false TRUE FALSE True False NULL null nil None",
+        tokens.word(at),
+    ) {
+        return out.line("There are only integers: write 1 for true, and 0 for false or nothing.");
+    }
+    match nearest_declared(alloc, tokens, at) {
+        Ok(Some(nearest)) => {
+            out.say("Did you mean `");
+            out.quote(nearest);
+            out.say("`? Otherwise declare");
         }
+        Ok(None) => out.say("Declare"),
+        Err(_) => return out.starve(),
     }
-
-    /// Adds the place of a token, the token, a text after it, and its line.
-    pub(crate) fn put(&self, at: usize, what: &str, out: &mut Words) {
-        let spot = spot_at(self.text, self.start(at));
-        out.put_place(self.name, spot);
-        out.quote(self.word(at));
-        out.say(what);
-        out.put_line(self.text, spot);
-    }
-
-    /// Adds a token, and a text after it.
-    pub(crate) fn tell(&self, at: usize, what: &str, out: &mut Words) {
-        out.quote(self.word(at));
-        out.say(what);
-    }
-
-    /// Adds a token in backticks, and a text after it.
-    pub(crate) fn cite(&self, at: usize, what: &str, out: &mut Words) {
-        out.say("`");
-        self.tell(at, "`", out);
-        out.say(what);
-    }
-
-    // The declared name that is nearest to the name at a token, if one is near.
-    fn nearest_declared(&self, alloc: Global, at: usize) -> Result<Option<&[u8]>, Memory> {
-        let mut nearest = Nearest::to(alloc, self.word(at))?;
-        for number in 0..MOST_VARIABLES {
-            let Some(declared) = self.declaration(number) else {
-                break;
-            };
-            nearest.compare(alloc, self.word(declared.name))?;
-        }
-        Ok(nearest.found())
-    }
-
-    // Says that a name is not declared, and how it is declared. `end` ends the declaration.
-    fn put_undeclared(&self, alloc: Global, at: usize, end: &str, out: &mut Words) {
-        self.put(at, " is not declared", out);
-        if is_word_of(
-            "true false TRUE FALSE True False NULL null nil None",
-            self.word(at),
-        ) {
-            return out.line(
-                "There are only integers: write 1 for true, and 0 for false or nothing.",
-            );
-        }
-        match self.nearest_declared(alloc, at) {
-            Ok(Some(nearest)) => {
-                out.say("Did you mean `");
-                out.quote(nearest);
-                out.say("`? Otherwise declare");
-            }
-            Ok(None) => out.say("Declare"),
-            Err(_) => return out.starve(),
-        }
-        out.say(" it at the beginning of the file: `public int ");
-        self.tell(at, end, out);
-        out.say(" or `secret int ");
-        self.tell(at, end, out);
-        out.line(".");
-    }
+    out.say(" it at the beginning of the file: `public int ");
+    tokens.tell(at, end, out);
+    out.say(" or `secret int ");
+    tokens.tell(at, end, out);
+    out.line(".");
 }
 
 impl Sight<'_> {
@@ -158,7 +135,7 @@ impl Sight<'_> {
         let seen = self.seen(self.depth(), at);
         let Some(declared) = seen.declared else {
             let end = if has_index { "[32];`" } else { ";`" };
-            self.tokens.put_undeclared(alloc, seen.at, end, out);
+            put_undeclared(alloc, self.tokens, seen.at, end, out);
             return true;
         };
         if declared.is_array && !has_index {
@@ -369,7 +346,7 @@ fn explain_limit(
         ),
         Which::TotalWords => tokens.put(
             tokens.declared_name(number),
-            " has more words than are left",
+            " exceeds the limit on the words of all variables",
             out,
         ),
         Which::Height => {

@@ -7,13 +7,14 @@ use Rattle.std.specs.BTreeMap.{BTreeMap, get, is_at}
 use Rattle.std.proofs.lemmas.Slice.Eq.{bytes_eq-Decides}
 use Rattle.gr_base.proofs.NameMaps.{key_cmp, name_added}
 use Rattle.gr_base.specs.Prelude.{found_under}
-use Rattle.src_procs.proofs.NumbersAdded.{flipped}
+use Rattle.procs_tree.proofs.NumbersAdded.{flipped}
 use Rattle.std.proofs.lemmas.List.{append-nil, length_push}
 use Rattle.gr_word.specs.declared.variables.Label.{Label}
 use Rattle.src_tree.specs.declared.trees.Decl.{Decl}
 use Rattle.src_tree.specs.Prelude.{Tree, Number}
 use Rattle.std.proofs.Math.Path.{fun_ext}
-use Rattle.src_procs.specs.Prelude.{Parameter, OfValue, OfVariable, Procedure, naming_locals, naming_all, named_by, new_values, new_labels, Renaming, renamed, assigned, new_name, no_name, Binding, Bound, bound_after, nothing_bound, with_new, with_alias, with_locals, with_parameters, looked_up, statements_of, put, Scope, begun}
+use Rattle.procs_tree.specs.Prelude.{Parameter, OfValue, OfVariable, Procedure, naming_locals, naming_all, named_by, new_values, new_labels, Renaming, renamed, assigned, new_name, no_name}
+use Rattle.src_procs.specs.Prelude.{Binding, Bound, bound_after, nothing_bound, with_new, with_alias, with_locals, with_parameters, looked_up, statements_of, put, Scope, begun}
 use Rattle.src_procs.proofs.OneStep.{put_nothing, put_both, held, held_same}
 use Rattle.src_tree.specs.Trees as plain
 

@@ -3,7 +3,8 @@ use Rattle.std.proofs.Common.{◌≡◌, List, ◌++◌, ap, ◌∙◌}
 use Rattle.gr_word.specs.declared.variables.Label.{Label}
 use Rattle.src_tree.specs.declared.trees.Decl.{Decl}
 use Rattle.src_tree.specs.Prelude.{Source}
-use Rattle.src_procs.specs.Prelude.{File, Held, held_start, first_block, with_made, statements_of, added, inlined_body, inlined_file}
+use Rattle.procs_tree.specs.Prelude.{File, added, inlined_body, inlined_file}
+use Rattle.src_procs.specs.Prelude.{Held, held_start, first_block, with_made, statements_of}
 use Rattle.src_procs.proofs.OneStep.{block_again}
 use Rattle.src_tree.specs.Trees as plain
 

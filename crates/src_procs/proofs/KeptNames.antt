@@ -2,7 +2,8 @@
 use Rattle.std.proofs.Common.{◌≡◌, ℕ, Bool, true, false, List, refl, ap, ◌∙◌}
 use Rattle.std.specs.Prelude.{◌||◌}
 use Rattle.src_tree.specs.Prelude.{Tree, Number, Variable, Element, Operation}
-use Rattle.src_procs.specs.Prelude.{has_hidden, is_hidden, kept_name, renamed}
+use Rattle.procs_tree.specs.Prelude.{is_hidden, kept_name, renamed}
+use Rattle.src_procs.specs.Prelude.{has_hidden}
 
 first_not : (a b : Bool) → a || b ≡ false → a ≡ false
 first_not true b e = absurd (cc)

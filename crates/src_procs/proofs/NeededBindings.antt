@@ -8,8 +8,10 @@ use Rattle.std.proofs.lemmas.Slice.Eq.{bytes_eq-Decides}
 use Rattle.gr_word.specs.declared.variables.Label.{Label}
 use Rattle.src_tree.specs.declared.trees.Decl.{Decl}
 use Rattle.src_tree.specs.Prelude.{Tree, Number}
-use Rattle.src_procs.specs.Prelude.{Names, Binding, Bound, Found, Held, Pending, Rest, Return, Scope, begun, bound_after, expanded, expanded_one, finished, found, looked_up, nothing_bound, put, returned, statements_of, with_alias, with_locals, with_made, with_new, with_parameter, with_parameters, with_scope, naming_all, named_by, Renaming, Inlined, inlined_all, inlines_of, new_name, no_name, renamed, AgreeOn, LiveBody, Placed, argument_at, begun_by, first_tree, keep_where, keeps, kept_from, with_kept, IsPruned, Call, Parameter, OfValue, OfVariable, Procedure}
-use Rattle.src_procs.specs.Needed.{with_argument}
+use Rattle.procs_tree.specs.Prelude.{Names, Found, found, naming_all, named_by, Renaming, Inlined, inlined_all, inlines_of, new_name, no_name, renamed, Call, Parameter, OfValue, OfVariable, Procedure}
+use Rattle.procs_pruning.specs.Prelude.{AgreeOn, LiveBody, Placed, argument_at, first_tree, keep_where, keeps, kept_from, IsPruned}
+use Rattle.src_procs.specs.Prelude.{Binding, Bound, Held, Pending, Rest, Return, Scope, begun, bound_after, expanded, expanded_one, finished, looked_up, nothing_bound, put, returned, statements_of, with_alias, with_locals, with_made, with_new, with_parameter, with_parameters, with_scope, begun_by, with_kept}
+use Rattle.src_procs.specs.Begun.{with_argument}
 use Rattle.src_procs.proofs.Bindings.{begun_made}
 use Rattle.src_procs.proofs.OneStep.{held, some_expanded}
 use Rattle.src_tree.specs.Trees as plain

@@ -1,10 +1,11 @@
 -- One step of making a file's program changes nothing of what comes of it.
-use Rattle.std.proofs.Common.{◌≡◌, ℕ, ◌+◌, ◌<◌, Bool, true, false, cond, Some, None, take, get_or, reverse, List, [], ◌∷◌, ◌++◌, length, refl, sym, ap, ◌∙◌, append_assoc}
-use Rattle.std.specs.Prelude.{bytes_eq}
-use Rattle.std.proofs.lemmas.List.{append-nil, length-append, take_more, reverse-append}
+use Rattle.std.proofs.Common.{◌≡◌, ℕ, ◌+◌, Some, None, List, [], ◌∷◌, ◌++◌, length, refl, sym, ap, ◌∙◌, append_assoc}
+use Rattle.std.proofs.lemmas.List.{append-nil, length-append}
 use Rattle.gr_word.specs.declared.variables.Label.{Label}
 use Rattle.src_tree.specs.Prelude.{Tree, Test}
-use Rattle.src_procs.specs.Prelude.{Statement, SetVariable, SetElement, Choice, Loop, Call, Block, Nothing, Then, Procedure, naming_all, new_values, new_labels, Renaming, renamed, renamed_test, Inlined, blocks_joined, both, inlined, inlined_all, inlines_of, inlined_call, assigned, new_name, no_name, Scope, Held, Found, found, statements_of, put, opened, closed_choice, end_choice, end_loop, with_made, expanded_one, expanded, returned, begun, with_scope, Pending, Rest, Open, EndChoice, EndLoop, finished}
+use Rattle.procs_tree.specs.Prelude.{Statement, SetVariable, SetElement, Choice, Loop, Call, Block, Nothing, Then, Procedure, naming_all, new_values, new_labels, Renaming, renamed, renamed_test, Inlined, blocks_joined, both, inlined, inlined_all, inlines_of, inlined_call, assigned, new_name, no_name, Found, found}
+use Rattle.src_procs.specs.Prelude.{Scope, Held, statements_of, put, opened, closed_choice, end_choice, end_loop, with_made, expanded_one, expanded, returned, begun, with_scope, Pending, Rest, Open, EndChoice, EndLoop, finished}
+use Rattle.procs_tree.proofs.FoundCalls.{inlines_found, inlines_none}
 use Rattle.src_tree.specs.Trees as plain
 
 pub block_again : (b : plain.Block) → plain.block_of (statements_of b) ≡ b
@@ -119,50 +120,6 @@ call_expanded name arguments p earlier callable names scopes open_blocks labels 
     })
     (inlined_all (inlines_of earlier)
     (naming_all new_name no_name names (length labels) p.parameters arguments p.locals) p.body)
-
--- a call of a name is one of the procedure that is found
-pub inlines_found : (procedures : List Procedure) (name : List ℕ) (f : Found) → found procedures name ≡ Some f
-    → (to : Renaming) (arguments : List Tree) (next : ℕ)
-    → inlines_of procedures name to arguments next
-    ≡ inlined_call (inlines_of f.earlier) f.procedure to arguments next
-inlines_found [] name f e to arguments next = absurd (cc)
-inlines_found (p ∷ earlier) name f e to arguments next =
-    by (bytes_eq name p.name) e (inlines_found earlier name f)
-  where
-    by : (b : Bool) → cond b (Some (record { procedure = p; earlier = earlier })) (found earlier name) ≡ Some f
-        → (found earlier name ≡ Some f → (to : Renaming) (arguments : List Tree) (next : ℕ)
-        → inlines_of earlier name to arguments next
-        ≡ inlined_call (inlines_of f.earlier) f.procedure to arguments next)
-        → cond b (inlined_call (inlines_of earlier) p to arguments next) (inlines_of earlier name to arguments next)
-        ≡ inlined_call (inlines_of f.earlier) f.procedure to arguments next
-    by true e rest =
-        let g : ◌≡◌ {A = Found} (record { procedure = p; earlier = earlier }) f = cc in
-        ap (λ (h : Found). inlined_call (inlines_of h.earlier) h.procedure to arguments next) g
-    by false e rest = rest e to arguments next
-
-pub inlines_none : (procedures : List Procedure) (name : List ℕ) → found procedures name ≡ None
-    → (to : Renaming) (arguments : List Tree) (next : ℕ)
-    → inlines_of procedures name to arguments next ≡ record { block = plain.Nothing; labels = [] }
-inlines_none [] name e to arguments next = refl
-inlines_none (p ∷ earlier) name e to arguments next = by (bytes_eq name p.name) e (inlines_none earlier name)
-  where
-    by : (b : Bool) → cond b (Some (record { procedure = p; earlier = earlier })) (found earlier name) ≡ None
-        → (found earlier name ≡ None → (to : Renaming) (arguments : List Tree) (next : ℕ)
-        → inlines_of earlier name to arguments next ≡ record { block = plain.Nothing; labels = [] })
-        → cond b (inlined_call (inlines_of earlier) p to arguments next) (inlines_of earlier name to arguments next)
-        ≡ record { block = plain.Nothing; labels = [] }
-    by true e rest = absurd (cc)
-    by false e rest = rest e to arguments next
-
--- the last of the first procedures comes first
-pub found_last : (procedures : List Procedure) (k : ℕ) (d : Procedure) (name : List ℕ) → k < length procedures
-    → found (reverse (take (k + 1) procedures)) name
-    ≡ cond (bytes_eq name (get_or procedures k d).name)
-    (Some (record { procedure = get_or procedures k d; earlier = reverse (take k procedures) }))
-    (found (reverse (take k procedures)) name)
-found_last procedures k d name lt =
-    ap (λ ps. found ps name)
-    (ap reverse (take_more procedures k d lt) ∙ reverse-append (take k procedures) (get_or procedures k d ∷ []))
 
 -- an assignment
 pub set_expanded : (x : List ℕ) (e : Tree) (scope : Scope) (scopes : List Scope)

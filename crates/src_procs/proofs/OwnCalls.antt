@@ -4,11 +4,13 @@ use Rattle.std.proofs.lemmas.List.{reverse-append}
 use Rattle.src_tree.specs.Prelude.{Tree, expr_tree}
 use Rattle.src_tree.specs.declared.trees.Expr.{Expr}
 use Rattle.src_procs.specs.declared.expanding.Made.{Made}
-use Rattle.src_procs.specs.declared.trees.Proc.{Proc}
-use Rattle.src_procs.specs.Prelude.{Names, Binding, Found, Held, Pending, Rest, Return, Scope, begun, expanded_one, finished, found, looked_up, returned, with_locals, with_made, with_parameters, with_scope, naming_all, Inlined, Renaming, kept_name, new_name, no_name, LiveBody, AreNumbered, found_before, IsPruned, procedure_of, trees_of, Call, Parameter, Procedure, own_held, scopes_of, unbound}
+use Rattle.procs_tree.specs.declared.trees.Proc.{Proc}
+use Rattle.procs_tree.specs.Prelude.{Names, Found, found, naming_all, Inlined, Renaming, kept_name, new_name, no_name, AreNumbered, found_before, procedure_of, trees_of, Call, Parameter, Procedure}
+use Rattle.procs_pruning.specs.Prelude.{LiveBody, IsPruned}
+use Rattle.src_procs.specs.Prelude.{Binding, Held, Pending, Rest, Return, Scope, begun, expanded_one, finished, looked_up, returned, with_locals, with_made, with_parameters, with_scope, own_held, scopes_of, unbound}
 use Rattle.src_procs.proofs.Bindings.{begun_made}
 use Rattle.src_procs.proofs.OneStep.{none_expanded, some_expanded}
-use Rattle.src_procs.proofs.NumbersAdded.{found_so}
+use Rattle.procs_tree.proofs.NumbersAdded.{found_so}
 use Rattle.src_procs.proofs.OwnSteps.{all_callable, own_scope}
 use Rattle.src_procs.specs.declared.scopes.Scope as scopes
 

@@ -3,8 +3,9 @@ use Rattle.std.proofs.Common.{◌≡◌, ℕ, ◌+◌, ◌<◌, List, [], ◌∷
 use Rattle.std.proofs.lemmas.List.{drop_more}
 use Rattle.src_tree.specs.Prelude.{Tree, expr_tree}
 use Rattle.src_tree.specs.declared.trees.Expr.{Expr}
-use Rattle.src_procs.specs.declared.trees.Param.{Param}
-use Rattle.src_procs.specs.Prelude.{Binding, with_parameter, with_parameters, kept_name, parameter_of, trees_of}
+use Rattle.procs_tree.specs.declared.trees.Param.{Param}
+use Rattle.procs_tree.specs.Prelude.{kept_name, parameter_of, trees_of}
+use Rattle.src_procs.specs.Prelude.{Binding, with_parameter, with_parameters}
 use Rattle.src_procs.proofs.OwnCalls.{one_given}
 
 -- one parameter more

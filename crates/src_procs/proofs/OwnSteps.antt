@@ -3,13 +3,14 @@ use Rattle.std.proofs.Common.{◌≡◌, ℕ, ◌≤◌, map, List, [], ◌∷�
 use Rattle.std.proofs.lemmas.List.{append-nil, length-map, reverse-append, take_all}
 use Rattle.src_tree.specs.Prelude.{shown_number, Tree, Test, Source}
 use Rattle.src_procs.specs.declared.expanding.Made.{Made}
-use Rattle.src_procs.specs.declared.trees.PStmt.{PStmt}
-use Rattle.src_procs.specs.declared.trees.Proc.{Proc}
-use Rattle.src_procs.specs.declared.trees.ProcFile.{ProcFile}
-use Rattle.src_procs.specs.Prelude.{Names, HasSizes, counted_call, AreNumbered, found_before, block_of_all, file_of, procedure_of, statement_of, SetVariable, SetElement, Call, Choice, Loop, Block, Procedure, Inlined, inlined_body, inlined_file, inlines_of, kept_name, renamed, renamed_test, Held, Pending, Rest, Open, EndChoice, EndLoop, Scope, expanded, expanded_one, finished, held_start, put, with_made, bare_file, blocks_of, own_held, source_made}
+use Rattle.procs_tree.specs.declared.trees.PStmt.{PStmt}
+use Rattle.procs_tree.specs.declared.trees.Proc.{Proc}
+use Rattle.procs_tree.specs.declared.trees.ProcFile.{ProcFile}
+use Rattle.procs_tree.specs.Prelude.{Names, HasSizes, counted_call, AreNumbered, found_before, block_of_all, file_of, procedure_of, statement_of, SetVariable, SetElement, Call, Choice, Loop, Block, Procedure, Inlined, inlined_body, inlined_file, inlines_of, kept_name, renamed, renamed_test, bare_file}
+use Rattle.src_procs.specs.Prelude.{Held, Pending, Rest, Open, EndChoice, EndLoop, Scope, expanded, expanded_one, finished, held_start, put, with_made, blocks_of, own_held, source_made}
 use Rattle.src_procs.proofs.Finished.{program_so}
 use Rattle.src_procs.proofs.OneStep.{choice_so, element_expanded, held_same, loop_so, nothing_expanded, put_nothing, set_expanded, then_expanded}
-use Rattle.src_procs.proofs.Pruning.{counted_dead}
+use Rattle.procs_pruning.proofs.Pruning.{counted_dead}
 use Rattle.src_tree.specs.Trees as plain
 
 abbrev pub own_scope : List Proc → Scope

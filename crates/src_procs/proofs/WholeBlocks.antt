@@ -1,8 +1,9 @@
 -- Statements as a block, the first and those after it.
 use Rattle.std.proofs.Common.{◌≡◌, false, List, [], ◌∷◌, length, drop, get_or, ap, ◌∙◌}
 use Rattle.std.specs.Prelude.{◌==◌}
-use Rattle.src_procs.specs.declared.live.Live.{Live}
-use Rattle.src_procs.specs.Prelude.{Then, live_block, live_of}
+use Rattle.procs_pruning.specs.declared.live.Live.{Live}
+use Rattle.procs_tree.specs.Prelude.{Then}
+use Rattle.procs_pruning.specs.Prelude.{live_block, live_of}
 
 pub whole_block : (statements : List Live) (s : Live) (others : List Live) → false ≡ (length statements == 0)
     → s ≡ get_or statements 0 s → others ≡ drop 1 statements

@@ -3,10 +3,12 @@ use Rattle.std.proofs.Common.{◌≡◌, ◌≤◌, List, [], ◌∷◌, length,
 use Rattle.src_tree.specs.Prelude.{Source}
 use Rattle.src_tree.specs.declared.trees.Decl.{Decl}
 use Rattle.src_procs.specs.declared.expanding.Made.{Made}
-use Rattle.src_procs.specs.declared.trees.PStmt.{PStmt}
-use Rattle.src_procs.specs.declared.trees.Proc.{Proc}
-use Rattle.src_procs.specs.declared.trees.ProcFile.{ProcFile}
-use Rattle.src_procs.specs.Prelude.{Held, Pending, Rest, expanded, finished, held_start, with_made, with_scope, Inlined, inline_fault, inlined_all, inlined_body, inlined_file, inlines_of, kept_name, SameCode, block_of_all, file_of, procedure_of, Block, Procedure, bare_file, own_held, scopes_of, source_made}
+use Rattle.procs_tree.specs.declared.trees.PStmt.{PStmt}
+use Rattle.procs_tree.specs.declared.trees.Proc.{Proc}
+use Rattle.procs_tree.specs.declared.trees.ProcFile.{ProcFile}
+use Rattle.procs_tree.specs.Prelude.{Inlined, inline_fault, inlined_all, inlined_body, inlined_file, inlines_of, kept_name, block_of_all, file_of, procedure_of, Block, Procedure, bare_file}
+use Rattle.procs_pruning.specs.Prelude.{SameCode}
+use Rattle.src_procs.specs.Prelude.{Held, Pending, Rest, expanded, finished, held_start, with_made, with_scope, own_held, scopes_of, source_made}
 use Rattle.src_procs.proofs.OwnSteps.{all_callable, own_program, own_scope}
 use Rattle.src_procs.specs.declared.scopes.Scope as scopes
 

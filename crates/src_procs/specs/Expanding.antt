@@ -5,9 +5,10 @@ use Rattle.std.specs.Option.{option_or}
 use Rattle.gr_word.specs.declared.variables.Label.{Label}
 use Rattle.src_tree.specs.declared.trees.Decl.{Decl}
 use Rattle.src_tree.specs.Trees.{Tree, Number, Variable, Element, Operation, Test}
-use Rattle.src_procs.specs.Trees.{Statement, SetVariable, SetElement, Block, Parameter, OfValue, OfVariable, Procedure}
-use Rattle.src_procs.specs.Frames.{naming_all, named_by, new_values, new_labels}
-use Rattle.src_procs.specs.Inlined.{Renaming, renamed, Inlined, inlined, inlined_all, inlines_of, assigned, is_hidden, new_name, no_name, kept_name}
+use Rattle.procs_tree.specs.Trees.{Statement, SetVariable, SetElement, Block, Parameter, OfValue, OfVariable, Procedure}
+use Rattle.procs_tree.specs.Frames.{naming_all, named_by, new_values, new_labels}
+use Rattle.procs_tree.specs.Inlined.{Renaming, renamed, Inlined, inlined, inlined_all, inlines_of, assigned, is_hidden, new_name, no_name, kept_name}
+use Rattle.procs_tree.specs.Numbered.{Found}
 use Rattle.src_tree.specs.Trees as plain
 
 -- what is still to be done: the statements that are left of a block; the caller's names count again; a block opens; a
@@ -83,16 +84,6 @@ outer_scopes (scope ∷ scopes) = scopes
 
 abbrev pub returned : Held → Held
 returned x = record x { scopes = outer_scopes x.scopes }
-
--- the procedure of a name, and those before it, the last first
-pub record Found : Type 0 where
-  pub procedure : Procedure
-  pub earlier : List Procedure
-
-abbrev pub found : List Procedure → List ℕ → Option Found
-found [] name = None
-found (p ∷ earlier) name =
-    if bytes_eq name p.name then Some (record { procedure = p; earlier = earlier }) else found earlier name
 
 -- a call of a procedure begins, from some names
 abbrev pub begun : Procedure → List Procedure → Renaming → List Tree → Held → Held

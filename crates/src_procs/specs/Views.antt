@@ -1,23 +1,18 @@
 -- For private clauses only: the types with which a file's program is made, as the proofs see them.
-use Rattle.std.specs.Prelude.{ℕ, List, [], ◌∷◌, ◌++◌, map, take, reverse, slice_index_or, Option, Some, None}
+use Rattle.std.specs.Prelude.{ℕ, List, [], ◌∷◌, ◌++◌, map, take, reverse}
 use Rattle.std.specs.Borrow.{Bor}
-use Rattle.src_tree.specs.Trees.{Tree, expr_tree, test_of}
-use Rattle.src_tree.specs.declared.trees.Expr.{Expr}
+use Rattle.src_tree.specs.Trees.{test_of}
 use Rattle.src_tree.specs.declared.trees.Stmt.{Stmt}
 use Rattle.std.specs.Global.{Vec}
-use Rattle.src_procs.specs.declared.trees.PStmt.{PStmt}
-use Rattle.src_procs.specs.declared.trees.Proc.{Proc}
+use Rattle.procs_tree.specs.declared.trees.Proc.{Proc}
 use Rattle.std.specs.BTreeMap.{BTreeMap}
 use Rattle.gr_base.specs.NameMaps.{found_under}
 use Rattle.src_tree.specs.declared.trees.Decl.{Decl}
-use Rattle.src_procs.specs.declared.live.Live.{Live}
-use Rattle.src_procs.specs.Needed.{LiveBody, Placed}
-use Rattle.src_procs.specs.declared.live.Live.TheOpen.{Live-F}
-use Rattle.src_procs.specs.declared.live.Live.TheFolds.{fold-Live}
-use Rattle.src_procs.specs.Inlined.{Renaming, added, kept_name}
-use Rattle.src_procs.specs.Seen.{block_of, block_of_all, parameter_of, procedure_of}
-use Rattle.src_procs.specs.Trees.{Statement, SetVariable, SetElement, Choice, Loop, Call, Block, Nothing, Procedure, File}
-use Rattle.src_procs.specs.Expanding.{Binding, Found, looked_up, first_block, nothing_bound, Pending, Rest, Return, Open, EndChoice, EndLoop, Scope, Held}
+use Rattle.procs_tree.specs.Inlined.{Renaming, added, kept_name}
+use Rattle.procs_tree.specs.Seen.{block_of, block_of_all, procedure_of}
+use Rattle.procs_tree.specs.Trees.{Statement}
+use Rattle.procs_pruning.specs.LiveSeen.{live_block}
+use Rattle.src_procs.specs.Expanding.{Binding, looked_up, first_block, nothing_bound, Pending, Rest, Return, Open, EndChoice, EndLoop, Scope, Held}
 use Rattle.src_tree.specs.Trees as plain
 use Rattle.src_procs.specs.declared.scopes.Naming as namings
 use Rattle.src_procs.specs.declared.scopes.Naming.TheVariants as naming
@@ -28,9 +23,6 @@ use Rattle.src_procs.specs.declared.expanding.Held as helds
 use Rattle.src_procs.specs.declared.expanding.Made as mades
 use Rattle.src_procs.specs.declared.own_statements.Own as owns
 use Rattle.src_procs.specs.declared.own_statements.Own.TheVariants as own
-use Rattle.src_procs.specs.declared.needed.Kept as lives
-use Rattle.src_procs.specs.declared.needed.Body as lives_of
-use Rattle.src_procs.specs.declared.live.Live.TheOpen as open_live
 
 abbrev pub names_of : namings.Naming → Renaming
 names_of naming.Own = kept_name
@@ -59,36 +51,6 @@ held_of procs x = record {
   open_blocks = blocks_of x.made.open_blocks.items;
   labels = x.made.labels.items;
 }
-
--- arguments that are held by reference
-abbrev pub trees_seen : List (Bor Expr) → List Tree
-trees_seen arguments = map (λ (b : Bor Expr). expr_tree b.now) arguments
-
-abbrev pub live_step : Live-F Statement → Statement
-live_step (open_live.Set x e) = SetVariable x.now (expr_tree e.now)
-live_step (open_live.Put x i e) = SetElement x.now (expr_tree i.now) (expr_tree e.now)
-live_step (open_live.If g a b) = Choice (test_of g.now) (block_of a.items) (block_of b.items)
-live_step (open_live.While g a) = Loop (test_of g.now) (block_of a.items)
-live_step (open_live.Call x es) = Call x.now (trees_seen es.items)
-
-abbrev pub live_of : Live → Statement
-live_of = fold-Live Statement live_step
-
-abbrev pub live_block : List Live → Block
-live_block statements = block_of (map live_of statements)
-
-abbrev pub placed_of : lives.Kept → Placed
-placed_of k = (k.at, parameter_of k.param.now)
-
-abbrev pub body_of : lives_of.Body → LiveBody
-body_of b = record {
-  statements = live_block b.statements.items;
-  needed = found_under b.needed;
-  kept = map placed_of b.kept.items;
-}
-
-abbrev pub bodies_of : List lives_of.Body → List LiveBody
-bodies_of bodies = map body_of bodies
 
 abbrev pub pending_of : pendings.Pending → Pending
 pending_of (pending.Rest left) = Rest (live_block left.statements.now)
@@ -141,25 +103,3 @@ unbound m = record {
   open_blocks = blocks_of m.open_blocks.items;
   labels = m.labels.items;
 }
-
-abbrev pub no_procedure : Procedure
-no_procedure = record { name = []; parameters = []; locals = []; body = Nothing }
-
--- a procedure by its number, and those before it
-abbrev pub found_at : List Proc → Option ℕ → Option Found
-found_at procs None = None
-found_at procs (Some k) =
-    Some
-    (record {
-      procedure = slice_index_or (map procedure_of procs) k no_procedure;
-      earlier = reverse (take k (map procedure_of procs));
-    })
-
--- names by their bytes
-abbrev pub names_seen : List (Bor (List ℕ)) → List (List ℕ)
-names_seen names = map (λ (b : Bor (List ℕ)). b.now) names
-
--- procedures and statements, as a file without declarations
-abbrev pub bare_file : List Proc → List PStmt → File
-bare_file procs statements =
-    record { decls = []; procedures = map procedure_of procs; body = block_of_all statements }

@@ -1,23 +1,24 @@
 ghost use Rattle.std.specs.Prelude.{◌≡◌, IfOk, OnOk, is_some, length, pos, map};
 ghost use Rattle.gr_base.specs.Prelude.{found_under};
 ghost use Rattle.src_tree.specs.Prelude.{expr_tree, statement_of, Number, SetVariable};
-ghost use Rattle.src_procs.specs.Frames.{named_by};
-ghost use Rattle.src_procs.specs.Inlined.{no_name, renamed};
+ghost use Rattle.procs_tree.specs.Frames.{named_by};
+ghost use Rattle.procs_tree.specs.Inlined.{no_name, renamed};
 ghost use Rattle.std.specs.Option.{option_map};
-ghost use Rattle.src_procs.specs.Handed.{argument_seen};
-ghost use Rattle.src_procs.specs.Seen.{parameter_of};
-ghost use Rattle.src_procs.specs.Views.{binding_of, names_of, placed_of, trees_seen, unbound};
+ghost use Rattle.procs_pruning.specs.Handed.{argument_seen};
+ghost use Rattle.procs_tree.specs.Seen.{parameter_of};
+ghost use Rattle.procs_pruning.specs.LiveSeen.{placed_of, trees_seen};
+ghost use Rattle.src_procs.specs.Views.{binding_of, names_of, unbound};
 ghost use Rattle.src_procs.specs.Expanding as spec;
-ghost use Rattle.src_procs.specs.Inlined as inlined;
-ghost use Rattle.src_procs.specs.Needed as needed;
+ghost use Rattle.procs_tree.specs.Inlined as inlined;
+ghost use Rattle.src_procs.specs.Begun as begun;
 
 use crate::expanding::{Made, put_statement};
-use crate::needed::{Kept, argument_at};
 use crate::scopes::{Bounds, Naming, new_name_of, no_name, renamed};
-use crate::trees::Param;
 use gr_base::Memory;
 use gr_word::{Label, Name};
 use itoa::Buffer;
+use procs_pruning::{Kept, argument_at};
+use procs_tree::Param;
 use src_tree::{Decl, Expr, Stmt};
 use std::alloc::Global;
 use std::collections::BTreeMap;
@@ -175,7 +176,7 @@ fn with_argument<'a>(
     argument: Option<&Expr>,
 ) -> Result<(), Memory>
     ensures { OnOk result (binding_of bounds.new made.new
-        ≡ needed.with_argument (names_of caller.now) (binding_of bounds.old made.old) (parameter_of param.now)
+        ≡ begun.with_argument (names_of caller.now) (binding_of bounds.old made.old) (parameter_of param.now)
         (option_map argument_seen argument.entry)) }
 {
     match argument {
@@ -193,7 +194,7 @@ fn with_kept<'a>(
     arguments: &[&Expr],
 ) -> Result<(), Memory>
     ensures { OnOk result (binding_of bounds.new made.new
-        ≡ needed.with_kept (names_of caller.now) (binding_of bounds.old made.old) (map placed_of kept.now)
+        ≡ begun.with_kept (names_of caller.now) (binding_of bounds.old made.old) (map placed_of kept.now)
         (trees_seen arguments.now)) }
 {
     for k in kept {
@@ -243,7 +244,7 @@ pub(crate) fn bound_names<'a>(
     arguments: &[&Expr],
 ) -> Result<Bounds<'a>, Memory>
     ensures { IfOk result (λ bounds. binding_of bounds made.new
-        ≡ spec.with_locals (needed.with_kept (names_of caller.now) (unbound made.old) (map placed_of kept.now)
+        ≡ spec.with_locals (begun.with_kept (names_of caller.now) (unbound made.old) (map placed_of kept.now)
         (trees_seen arguments.now)) locals.now) }
 {
     let mut bounds: Bounds<'a> = BTreeMap::new(alloc);

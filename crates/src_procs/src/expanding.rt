@@ -1,13 +1,14 @@
 ghost use Rattle.std.specs.Prelude.{◌≡◌, ◌∷◌, ◌++◌, [], IfNone, IfOk, IfSome, OnOk, map, option_map, reverse};
 ghost use Rattle.src_tree.specs.Prelude.{SetElement, SetVariable, expr_tree, test_of, statement_of};
-ghost use Rattle.src_procs.specs.Inlined.{renamed};
+ghost use Rattle.procs_tree.specs.Inlined.{renamed};
 ghost use Rattle.src_procs.specs.Expanding.{EndChoice, EndLoop, Open, Rest, Return, closed_choice, closed_loop, plain_statement, put};
-ghost use Rattle.src_procs.specs.Views.{blocks_of, live_block, live_of, names_of, pending_all, pending_of, statements_seen};
+ghost use Rattle.procs_pruning.specs.LiveSeen.{live_block, live_of};
+ghost use Rattle.src_procs.specs.Views.{blocks_of, names_of, pending_all, pending_of, statements_seen};
 
-use crate::live::Live;
 use crate::scopes::{Naming, Scope, new_name_of, renamed};
 use gr_base::Memory;
 use gr_word::{Label, Name};
+use procs_pruning::Live;
 use src_tree::{Expr, Guard, Stmt};
 use std::alloc::Global;
 

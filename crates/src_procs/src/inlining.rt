@@ -1,67 +1,30 @@
 ghost use Rattle.std.specs.Prelude.{◌≡◌, ◌++◌, ◌∷◌, [], IfErr, IfOk, OnOk, None, length, map};
 ghost use Rattle.gr_base.specs.Prelude.{found_under};
 ghost use Rattle.src_tree.specs.Prelude.{source_of};
-ghost use Rattle.src_procs.specs.declared.errors.InlineError.{InlineError};
+ghost use Rattle.procs_tree.specs.declared.errors.InlineError.{InlineError};
 ghost use Rattle.src_procs.specs.Expanding.{expanded, first_block, held_start, with_made};
-ghost use Rattle.src_procs.specs.CallCauses.{ExplainsInlining, IsFirstCallFault};
-ghost use Rattle.src_procs.specs.InlineFaults.{IsFoundFault, inline_fault};
-ghost use Rattle.src_procs.specs.Inlined.{added, inlined_body, inlined_file};
-ghost use Rattle.src_procs.specs.Measured.{HasSizes};
-ghost use Rattle.src_procs.specs.Numbered.{AreNumbered};
-ghost use Rattle.src_procs.specs.Promise.{ArePlain, KeepsMeaning};
-ghost use Rattle.src_procs.specs.Pruned.{AreReady};
-ghost use Rattle.src_procs.specs.Seen.{block_of_all, file_of, procedure_of};
-ghost use Rattle.src_procs.specs.Views.{bare_file, blocks_of, live_block, own_held, source_made, statements_seen};
+ghost use Rattle.procs_tree.specs.CallCauses.{ExplainsInlining, IsFirstCallFault};
+ghost use Rattle.procs_tree.specs.Inlined.{added, inlined_body, inlined_file};
+ghost use Rattle.procs_tree.specs.Measured.{HasSizes};
+ghost use Rattle.procs_tree.specs.Numbered.{AreNumbered};
+ghost use Rattle.procs_tree.specs.Promise.{ArePlain, KeepsMeaning};
+ghost use Rattle.procs_pruning.specs.Pruned.{AreReady};
+ghost use Rattle.procs_tree.specs.InlineFaults.{IsFoundFault, inline_fault};
+ghost use Rattle.procs_tree.specs.Seen.{bare_file, block_of_all, file_of, procedure_of};
+ghost use Rattle.procs_pruning.specs.LiveSeen.{live_block};
+ghost use Rattle.src_procs.specs.Views.{blocks_of, own_held, source_made, statements_seen};
 
 use crate::binding::new_name;
-use crate::call_faults::walk_file;
-use crate::errors::InlineError;
 use crate::expanding::{Held, Made, waits_for};
-use crate::finding::numbers_of;
-use crate::live::{Live, live_bodies, live_statements};
-use crate::own_names::{Numbers, procedures_fault};
 use crate::own_statements::expand_own;
 use crate::scopes::{Naming, Scope};
-use crate::sizes::{block_size, body_sizes};
-use crate::stepping::{Procedures, expand, scoped};
-use crate::trees::{PStmt, Proc, ProcFile};
+use crate::stepping::{expand, scoped};
 use gr_base::Memory;
 use gr_word::Label;
+use procs_pruning::{Live, Procedures, live_bodies, live_statements};
+use procs_tree::{InlineError, JudgedProcs, Numbers, PStmt, Proc, ProcFile, judge};
 use src_tree::{Decl, Program, Stmt};
 use std::alloc::Global;
-
-// The most statements of a program without calls.
-const MAX_STATEMENTS: u64 = 8192;
-
-// The numbers of procedures by their names, and the sizes of their bodies.
-#[derive(Drop)]
-struct Judged<'a> {
-    numbers: Numbers<'a>,
-    sizes: Vec<u64>,
-}
-
-// What is known of the procedures of a file without a fault, or its first fault.
-fn judge<'a>(alloc: Global, procs: &'a [Proc], body: &[PStmt]) -> Result<Judged<'a>, InlineError>
-    ensures numbers { IfOk result (λ r. AreNumbered (map procedure_of procs.now) (found_under r.numbers)) }
-    ensures sizes { IfOk result (λ r. HasSizes (map procedure_of procs.now) r.sizes.items) }
-    ensures faultless { OnOk result (inline_fault (bare_file procs.now body.now) ≡ None) }
-    ensures refused { IfErr result (λ e. IsFoundFault e (bare_file procs.now body.now)) }
-{
-    match procedures_fault(alloc, procs)? {
-        Some(fault) => return Err(fault),
-        None => {}
-    }
-    let numbers = numbers_of(alloc, procs)?;
-    match walk_file(procs, &numbers, body) {
-        Err(fault) => return Err(fault),
-        Ok(_) => {}
-    }
-    let sizes = body_sizes(alloc, procs, &numbers)?;
-    if block_size(procs, &numbers, sizes.as_slice(), procs.len(), body) > MAX_STATEMENTS {
-        return Err(InlineError::TooLarge);
-    }
-    Ok(Judged { numbers, sizes })
-}
 
 fn added(alloc: Global, n: usize, label: Label) -> Result<Decl, Memory>
     ensures { IfOk result (λ d. d ∷ [] ≡ added n (label ∷ [])) }
@@ -254,7 +217,7 @@ pub fn inline(alloc: Global, f: &ProcFile) -> Result<Program, InlineError>
 {
     let procs = f.procs.as_slice();
     let body = f.body.as_slice();
-    let Judged { numbers, sizes } = judge(alloc, procs, body)?;
+    let JudgedProcs { numbers, sizes } = judge(alloc, procs, body)?;
     let made = expanded_copy(alloc, procs, &numbers, sizes.as_slice(), body)?;
     let decls = copied(alloc, f.decls.as_slice())?;
     let program = finish(alloc, decls, made)?;
@@ -274,7 +237,7 @@ pub fn inline_owned(alloc: Global, f: ProcFile) -> Result<Program, InlineError>
 {
     let ProcFile { decls, procs, body } = f;
     let procs = procs.as_slice();
-    let Judged { numbers, sizes } = judge(alloc, procs, body.as_slice())?;
+    let JudgedProcs { numbers, sizes } = judge(alloc, procs, body.as_slice())?;
     let made = expanded(alloc, procs, &numbers, sizes.as_slice(), body)?;
     let program = finish(alloc, decls, made)?;
     Ok(program)

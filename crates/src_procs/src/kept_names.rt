@@ -1,11 +1,12 @@
 ghost use Rattle.std.specs.Prelude.{◌≡◌, IfOk};
 ghost use Rattle.src_tree.specs.Prelude.{expr_tree, test_of};
-ghost use Rattle.src_procs.specs.Inlined.{kept_name, renamed, renamed_test};
+ghost use Rattle.procs_tree.specs.Inlined.{kept_name, renamed, renamed_test};
 ghost use Rattle.src_procs.specs.Expanding as spec;
 
-use crate::scopes::{Naming, is_hidden, no_name, renamed};
+use crate::scopes::{Naming, no_name, renamed};
 use gr_base::Memory;
 use gr_word::Name;
+use procs_tree::is_hidden;
 use src_tree::{Expr, Guard};
 use std::alloc::Global;
 

@@ -1,20 +1,19 @@
 ghost use Rattle.std.specs.Prelude.{◌≡◌, ◌∷◌, IfOk, OnOk, map, reverse};
 ghost use Rattle.src_tree.specs.Prelude.{expr_tree, test_of};
 ghost use Rattle.src_procs.specs.Expanding.{EndChoice, EndLoop, Open, Rest, expanded, expanded_one, finished};
-ghost use Rattle.src_procs.specs.Measured.{HasSizes};
-ghost use Rattle.src_procs.specs.Pruned.{AreReady};
-ghost use Rattle.src_procs.specs.Seen.{block_of_all, procedure_of, statement_of, trees_of};
-ghost use Rattle.src_procs.specs.Trees.{Call, Choice, Loop, SetElement, SetVariable};
+ghost use Rattle.procs_tree.specs.Measured.{HasSizes};
+ghost use Rattle.procs_pruning.specs.Pruned.{AreReady};
+ghost use Rattle.procs_tree.specs.Seen.{block_of_all, procedure_of, statement_of, trees_of};
+ghost use Rattle.procs_tree.specs.Trees.{Call, Choice, Loop, SetElement, SetVariable};
 ghost use Rattle.src_procs.specs.Views.{own_held, own_of, owns_all};
 
 use crate::expanding::{Made, close_choice, close_loop, open_block, put_statement};
 use crate::kept_names::{own_expr, own_guard, own_name};
 use crate::own_calls::with_own_call;
-use crate::sizes::call_size;
-use crate::stepping::Procedures;
-use crate::trees::{PStmt, Proc};
 use gr_base::Memory;
 use gr_word::Name;
+use procs_pruning::Procedures;
+use procs_tree::{PStmt, Proc, call_size};
 use src_tree::{Expr, Guard, Stmt};
 use std::alloc::Global;
 use std::mem;

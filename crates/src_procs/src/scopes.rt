@@ -1,12 +1,13 @@
-ghost use Rattle.std.specs.Prelude.{◌≡◌, IfOk, slice_index};
+ghost use Rattle.std.specs.Prelude.{◌≡◌, IfOk};
 ghost use Rattle.gr_base.specs.Prelude.{found_under};
 ghost use Rattle.src_tree.specs.Prelude.{Element, Operation, expr_tree, test_of};
-ghost use Rattle.src_procs.specs.Inlined.{is_hidden, kept_name, no_name, renamed, renamed_test};
+ghost use Rattle.procs_tree.specs.Inlined.{is_hidden, kept_name, no_name, renamed, renamed_test};
 ghost use Rattle.src_procs.specs.Expanding.{looked_up};
 ghost use Rattle.src_procs.specs.Views.{names_of};
 
 use gr_base::Memory;
 use gr_word::{Name, Op};
+use procs_tree::is_hidden;
 use src_tree::{Expr, Guard};
 use std::alloc::Global;
 use std::collections::BTreeMap;
@@ -26,19 +27,6 @@ pub(crate) enum Naming<'a> {
 pub(crate) struct Scope<'a> {
     pub callable: usize,
     pub names: Naming<'a>,
-}
-
-fn byte_at(name: &[u8], i: usize) -> u8
-    ensures { result ≡ slice_index name.now i }
-{
-    if i < name.len() { name[i] } else { 0 }
-}
-
-/// Whether a name begins with `__`, as no name of a file does.
-pub fn is_hidden(name: &[u8]) -> bool
-    ensures { result ≡ is_hidden name.now }
-{
-    byte_at(name, 0) == 95 && byte_at(name, 1) == 95
 }
 
 pub(crate) fn no_name(alloc: Global) -> Result<Name, Memory>

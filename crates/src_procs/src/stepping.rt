@@ -1,37 +1,26 @@
 ghost use Rattle.std.specs.Prelude.{◌≡◌, ◌≤◌, ◌∷◌, [], IfNone, IfSome, OnOk, length, map, reverse, take};
 ghost use Rattle.src_tree.specs.Prelude.{test_of};
 ghost use Rattle.src_procs.specs.Expanding.{Rest, Return, assigned_one, expanded, expanded_one, finished, with_locals, with_scope};
-ghost use Rattle.src_procs.specs.Needed.{begun_by, with_kept};
-ghost use Rattle.src_procs.specs.Pruned.{AreReady};
-ghost use Rattle.src_procs.specs.Seen.{procedure_of};
-ghost use Rattle.src_procs.specs.Trees.{Block, Call, Choice, Loop, Then};
-ghost use Rattle.src_procs.specs.Views.{found_at, held_of, live_block, live_of, names_of, pending_all, pending_of, placed_of, scope_of, trees_seen, unbound};
+ghost use Rattle.src_procs.specs.Begun.{begun_by, with_kept};
+ghost use Rattle.procs_pruning.specs.Pruned.{AreReady};
+ghost use Rattle.procs_tree.specs.Seen.{procedure_of};
+ghost use Rattle.procs_tree.specs.Trees.{Block, Call, Choice, Loop, Then};
+ghost use Rattle.procs_pruning.specs.LiveSeen.{live_block, live_of, placed_of, trees_seen};
+ghost use Rattle.procs_tree.specs.Numbered.{found_at};
+ghost use Rattle.src_procs.specs.Views.{held_of, names_of, pending_all, pending_of, scope_of, unbound};
 
 use crate::binding::bound_names;
 use crate::expanding::{
     Held, Pending, assignment, close_choice, close_loop, open_block, put_statement, waits_for,
     waits_for_call, waits_for_choice, waits_for_loop,
 };
-use crate::finding::called;
-use crate::live::Live;
-use crate::needed::{Body, Kept};
-use crate::own_names::Numbers;
 use crate::scopes::{Naming, Scope, renamed_guard};
-use crate::trees::Proc;
 use gr_base::Memory;
 use gr_word::Name;
+use procs_pruning::{Kept, Live, Procedures};
+use procs_tree::{Proc, called};
 use src_tree::{Decl, Expr, Guard};
 use std::alloc::Global;
-
-/// The procedures of a file, with what a call of one needs.
-#[derive(Clone, Copy)]
-pub(crate) struct Procedures<'b, 'a> {
-    pub procs: &'a [Proc],
-    /// Their numbers, by their names.
-    pub numbers: &'b Numbers<'a>,
-    /// What is left of each.
-    pub bodies: &'b [Body<'a>],
-}
 
 // What is held, with one more scope.
 pub(crate) fn scoped<'a>(

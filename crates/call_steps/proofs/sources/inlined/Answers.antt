@@ -1,4 +1,4 @@
-use Rattle.src_procs.specs.Prelude.{file_of}
+use Rattle.procs_tree.specs.Prelude.{file_of}
 use Rattle.call_steps.proofs.FirstSourceFaults.{file-first, call-first}
 use Rattle.call_steps.proofs.sources.inlined.Goals as goal
 

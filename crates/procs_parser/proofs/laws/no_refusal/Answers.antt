@@ -3,7 +3,7 @@ use Rattle.src_lexer.specs.declared.tokens.Token.{Token}
 use Rattle.src_parser.specs.Prelude.{limits, token_kinds}
 use Rattle.src_parser.specs.declared.errors.ParseFault.{ParseFault}
 use Rattle.src_parser.proofs.Tokenwise.{next_begins}
-use Rattle.src_procs.specs.Prelude.{File}
+use Rattle.procs_tree.specs.Prelude.{File}
 use Rattle.procs_parser.specs.Prelude.{SpellsFile, ExplainsFile}
 use Rattle.procs_parser.proofs.FileLaws.{file_laws}
 use Rattle.src_parser.specs.declared.errors.ParseFault.TheVariants as error

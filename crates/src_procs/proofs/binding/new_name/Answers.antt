@@ -1,6 +1,6 @@
 use Rattle.std.proofs.Common.{ap, ◌∙◌}
 use Rattle.gr_word.specs.Prelude.{is_name}
-use Rattle.src_procs.proofs.NameFits.{new_name_fits}
+use Rattle.procs_tree.proofs.NameFits.{new_name_fits}
 use Rattle.src_procs.proofs.binding.new_name.Goals as goal
 
 pub new-requires : goal.new-requires

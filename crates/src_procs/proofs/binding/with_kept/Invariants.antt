@@ -1,5 +1,6 @@
 use Rattle.std.proofs.Common.{◌≡◌, drop, map}
-use Rattle.src_procs.specs.Prelude.{with_kept, binding_of, names_of, placed_of, trees_seen}
+use Rattle.procs_pruning.specs.Prelude.{placed_of, trees_seen}
+use Rattle.src_procs.specs.Prelude.{with_kept, binding_of, names_of}
 use Rattle.src_procs.proofs.binding.with_kept.Given as goal
 
 abbrev pub invariant-loop-k : goal.invariant-loop-k

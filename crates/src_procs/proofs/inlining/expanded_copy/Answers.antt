@@ -1,6 +1,7 @@
 use Rattle.std.proofs.Common.{List, ap, ◌∙◌}
-use Rattle.src_procs.specs.declared.live.Live.{Live}
-use Rattle.src_procs.specs.Prelude.{expanded, live_block, own_held}
+use Rattle.procs_pruning.specs.declared.live.Live.{Live}
+use Rattle.procs_pruning.specs.Prelude.{live_block}
+use Rattle.src_procs.specs.Prelude.{expanded, own_held}
 use Rattle.src_procs.proofs.WholeFiles.{own_whole}
 use Rattle.src_procs.proofs.inlining.expanded_copy.Goals as goal
 

@@ -1,7 +1,8 @@
 use Rattle.std.proofs.Common.{refl, ap}
 use Rattle.src_procs.specs.declared.expanding.Pending.{Pending}
 use Rattle.std.proofs.Common.{List}
-use Rattle.src_procs.specs.Prelude.{held_of, live_block, pending_all}
+use Rattle.procs_pruning.specs.Prelude.{live_block}
+use Rattle.src_procs.specs.Prelude.{held_of, pending_all}
 use Rattle.src_procs.proofs.WholeFiles.{own_expanded}
 use Rattle.src_procs.proofs.inlining.expanded_live.Goals as goal
 

@@ -1,9 +1,9 @@
 use Rattle.std.proofs.Common.{sym, ◌∙◌}
 use Rattle.src_tree.specs.Prelude.{source_of}
 use Rattle.std.proofs.lemmas.Result.{err_from_is_err_and}
-use Rattle.src_procs.specs.Prelude.{file_of, bare_file}
-use Rattle.src_procs.proofs.CallCauses.{not-caused}
-use Rattle.src_procs.proofs.Judged.{found_explains, kept_for}
+use Rattle.procs_tree.specs.Prelude.{file_of, bare_file}
+use Rattle.procs_tree.proofs.CallCauses.{not-caused}
+use Rattle.procs_tree.proofs.Judged.{found_explains, kept_for}
 use Rattle.src_procs.proofs.OwnSteps.{own_program}
 use Rattle.src_procs.proofs.WholeFiles.{same-fault}
 use Rattle.src_procs.proofs.inlining.inline_owned.Goals as goal

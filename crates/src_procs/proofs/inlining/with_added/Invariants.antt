@@ -1,5 +1,5 @@
 use Rattle.std.proofs.Common.{◌≡◌, ◌++◌, drop}
-use Rattle.src_procs.specs.Prelude.{added}
+use Rattle.procs_tree.specs.Prelude.{added}
 use Rattle.src_procs.proofs.inlining.with_added.Given as goal
 
 abbrev pub invariant-loop-i : goal.invariant-loop-i

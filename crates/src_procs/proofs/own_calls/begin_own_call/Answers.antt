@@ -1,8 +1,9 @@
 use Rattle.std.proofs.Common.{◌≤◌, List, length, map, reverse, take, ap, ◌∙◌, arith}
 use Rattle.src_tree.specs.declared.trees.Decl.{Decl}
 use Rattle.src_procs.specs.declared.scopes.Naming.TheVariants.{Bound}
-use Rattle.src_procs.specs.declared.trees.Param.{Param}
-use Rattle.src_procs.specs.Prelude.{with_locals, with_parameters, kept_name, parameter_of, procedure_of, trees_of, binding_of, held_of, scope_of, unbound}
+use Rattle.procs_tree.specs.declared.trees.Param.{Param}
+use Rattle.procs_tree.specs.Prelude.{kept_name, parameter_of, procedure_of, trees_of}
+use Rattle.src_procs.specs.Prelude.{with_locals, with_parameters, binding_of, held_of, scope_of, unbound}
 use Rattle.src_procs.proofs.OwnCalls.{own_begun, own_scoped}
 use Rattle.src_procs.proofs.own_calls.begin_own_call.Goals as goal
 

@@ -1,9 +1,11 @@
 use Rattle.std.proofs.Common.{◌≡◌, ◌<◌, ◌≤◌, List, ◌∷◌, Some, None, length, map, take, reverse, get_or, refl, sym, subst, ap, ◌∙◌, arith}
 use Rattle.std.proofs.lemmas.List.{get_or-map, length-map}
 use Rattle.gr_base.specs.Prelude.{found_under}
-use Rattle.src_procs.specs.declared.live.Live.{Live}
-use Rattle.src_procs.specs.declared.needed.Body.{Body}
-use Rattle.src_procs.specs.Prelude.{Found, Rest, Return, begun, kept_name, LiveBody, no_body, IsPruned, procedure_of, trees_of, Procedure, body_of, held_of, live_block, no_procedure, own_held, pending_all}
+use Rattle.procs_pruning.specs.declared.live.Live.{Live}
+use Rattle.procs_pruning.specs.declared.needed.Body.{Body}
+use Rattle.procs_tree.specs.Prelude.{Found, kept_name, procedure_of, trees_of, Procedure, no_procedure}
+use Rattle.procs_pruning.specs.Prelude.{LiveBody, no_body, IsPruned, body_of, live_block}
+use Rattle.src_procs.specs.Prelude.{Rest, Return, begun, held_of, own_held, pending_all}
 use Rattle.src_procs.proofs.OwnCalls.{own_called, own_found, own_none_called}
 use Rattle.src_procs.specs.declared.expanding.Pending as pendings
 use Rattle.src_procs.proofs.own_calls.with_own_call.Goals as goal

@@ -1,5 +1,6 @@
 use Rattle.std.proofs.Common.{map}
-use Rattle.src_procs.specs.Prelude.{binding_of, kept_name, parameter_of, trees_of, with_parameters}
+use Rattle.procs_tree.specs.Prelude.{kept_name, parameter_of, trees_of}
+use Rattle.src_procs.specs.Prelude.{binding_of, with_parameters}
 use Rattle.src_procs.proofs.OwnParameters.{one_bound}
 use Rattle.src_procs.proofs.own_calls.with_own_parameters.Goals as goal
 

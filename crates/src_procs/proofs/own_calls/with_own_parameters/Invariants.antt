@@ -1,5 +1,6 @@
 use Rattle.std.proofs.Common.{◌≡◌, drop, map, reverse}
-use Rattle.src_procs.specs.Prelude.{with_parameters, kept_name, parameter_of, trees_of, binding_of}
+use Rattle.procs_tree.specs.Prelude.{kept_name, parameter_of, trees_of}
+use Rattle.src_procs.specs.Prelude.{with_parameters, binding_of}
 use Rattle.src_procs.proofs.own_calls.with_own_parameters.Given as goal
 
 abbrev pub invariant-loop-param : goal.invariant-loop-param

@@ -1,5 +1,6 @@
 use Rattle.std.proofs.Common.{◌≡◌}
-use Rattle.src_procs.specs.Prelude.{expanded, finished, block_of_all, own_held, owns_all}
+use Rattle.procs_tree.specs.Prelude.{block_of_all}
+use Rattle.src_procs.specs.Prelude.{expanded, finished, own_held, owns_all}
 use Rattle.src_procs.proofs.own_statements.expand_own.Given as goal
 
 abbrev pub invariant-loop : goal.invariant-loop

@@ -1,7 +1,8 @@
 use Rattle.std.proofs.Common.{◌≡◌, [], ◌∷◌}
 use Rattle.std.proofs.lemmas.Result.{on_ok_weaker}
 use Rattle.src_tree.specs.Prelude.{test_of}
-use Rattle.src_procs.specs.Prelude.{block_of_all, blocks_of, owns_all}
+use Rattle.procs_tree.specs.Prelude.{block_of_all}
+use Rattle.src_procs.specs.Prelude.{blocks_of, owns_all}
 use Rattle.src_procs.proofs.OwnSteps.{own_loop}
 use Rattle.src_procs.proofs.own_statements.repeat.Goals as goal
 

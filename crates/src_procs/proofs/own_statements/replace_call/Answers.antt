@@ -2,7 +2,7 @@ use Rattle.std.proofs.Common.{◌≡◌, ◌≤◌, List, length, map, ap, ◌�
 use Rattle.gr_base.specs.Prelude.{found_under}
 use Rattle.src_tree.specs.Prelude.{shown_number}
 use Rattle.src_tree.specs.declared.trees.Expr.{Expr}
-use Rattle.src_procs.specs.Prelude.{counted_call, found_before, procedure_of, trees_of}
+use Rattle.procs_tree.specs.Prelude.{counted_call, found_before, procedure_of, trees_of}
 use Rattle.src_procs.proofs.OwnSteps.{own_dead}
 use Rattle.src_procs.proofs.own_statements.replace_call.Goals.{Then-size-eq0}
 use Rattle.src_procs.proofs.own_statements.replace_call.Goals as goal

@@ -1,7 +1,9 @@
 use Rattle.std.proofs.Common.{◌≡◌, map, take, reverse}
 use Rattle.std.proofs.lemmas.Result.{on_ok_weaker}
 use Rattle.src_procs.specs.declared.scopes.Naming.TheVariants.{Bound}
-use Rattle.src_procs.specs.Prelude.{with_locals, with_scope, with_kept, procedure_of, binding_of, held_of, names_of, placed_of, scope_of, trees_seen, unbound}
+use Rattle.procs_tree.specs.Prelude.{procedure_of}
+use Rattle.procs_pruning.specs.Prelude.{placed_of, trees_seen}
+use Rattle.src_procs.specs.Prelude.{with_locals, with_scope, with_kept, binding_of, held_of, names_of, scope_of, unbound}
 use Rattle.src_procs.proofs.NeededBindings.{begun_so}
 use Rattle.src_procs.proofs.stepping.begin_call.Goals as goal
 

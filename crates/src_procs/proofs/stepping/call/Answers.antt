@@ -2,11 +2,13 @@ use Rattle.std.proofs.Common.{◌≡◌, ◌<◌, List, ◌∷◌, Some, None, l
 use Rattle.std.proofs.lemmas.List.{get_or-map, length-map}
 use Rattle.std.proofs.lemmas.Result.{on_ok_weaker}
 use Rattle.gr_base.specs.Prelude.{found_under}
-use Rattle.src_procs.specs.declared.live.Live.{Live}
-use Rattle.src_procs.specs.Prelude.{finished, Found, Rest, Return, with_locals, with_scope, LiveBody, begun_by, no_body, with_kept, IsPruned, procedure_of, Procedure, body_of, held_of, live_block, pending_all, placed_of, scope_of, no_procedure, trees_seen, unbound}
+use Rattle.procs_pruning.specs.declared.live.Live.{Live}
+use Rattle.procs_tree.specs.Prelude.{Found, procedure_of, Procedure, no_procedure}
+use Rattle.procs_pruning.specs.Prelude.{LiveBody, no_body, IsPruned, body_of, live_block, placed_of, trees_seen}
+use Rattle.src_procs.specs.Prelude.{finished, Rest, Return, with_locals, with_scope, begun_by, with_kept, held_of, pending_all, scope_of, unbound}
 use Rattle.src_tree.specs.declared.trees.Decl.{Decl}
-use Rattle.src_procs.specs.declared.needed.Kept.{Kept}
-use Rattle.src_procs.proofs.NumbersAdded.{found_so}
+use Rattle.procs_pruning.specs.declared.needed.Kept.{Kept}
+use Rattle.procs_tree.proofs.NumbersAdded.{found_so}
 use Rattle.src_procs.proofs.OneStep.{none_expanded}
 use Rattle.src_procs.proofs.NeededBindings.{called_so}
 use Rattle.src_procs.proofs.stepping.call.Goals as goal

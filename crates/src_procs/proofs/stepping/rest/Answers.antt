@@ -1,6 +1,8 @@
 use Rattle.std.proofs.Common.{◌≡◌, ap, ◌∙◌}
 use Rattle.std.proofs.lemmas.Result.{on_ok_weaker}
-use Rattle.src_procs.specs.Prelude.{Held, expanded, finished, with_scope, Block, Then, held_of, live_block, live_of, pending_all, scope_of}
+use Rattle.procs_tree.specs.Prelude.{Block, Then}
+use Rattle.procs_pruning.specs.Prelude.{live_block, live_of}
+use Rattle.src_procs.specs.Prelude.{Held, expanded, finished, with_scope, held_of, pending_all, scope_of}
 use Rattle.src_procs.proofs.WholeBlocks.{whole_block}
 use Rattle.src_procs.proofs.stepping.rest.Goals as goal
 

@@ -1,7 +1,7 @@
 use Rattle.std.proofs.Common.{◌≡◌, sym, ap, ◌∙◌, Some, None}
 use Rattle.std.specs.Prelude.{option_map}
 use Rattle.src_parser.proofs.SeveralTokens.{cut_at_end, whole_at_end}
-use Rattle.src_procs.specs.Prelude.{file_of}
+use Rattle.procs_tree.specs.Prelude.{file_of}
 use Rattle.procs_parser.specs.Prelude.{program_of, state_of}
 use Rattle.procs_parser.proofs.FileLaws.{file_laws}
 use Rattle.procs_parser.proofs.parsing.FileReaderTokenReader.finish.Goals as goal

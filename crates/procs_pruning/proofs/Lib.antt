@@ -1,0 +1,4 @@
+pub mod Pruning
+pub mod HandedOn
+pub mod NeededNames
+pub mod KeptParameters

@@ -1,0 +1,5 @@
+pub mod Pruned
+pub mod Handed
+pub mod Needed
+pub mod LiveSeen
+pub mod Prelude

@@ -1,0 +1,12 @@
+pub mod Trees
+pub mod Frames
+pub mod CallMeaning
+pub mod Inlined
+pub mod Promise
+pub mod Sizes
+pub mod Seen
+pub mod CallCauses
+pub mod InlineFaults
+pub mod Measured
+pub mod Numbered
+pub mod Prelude

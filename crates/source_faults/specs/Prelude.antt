@@ -1,2 +1,0 @@
--- The definitions that clauses and proofs above cite, passed on from one place. Declares nothing.
-unfoldable pub use Rattle.source_faults.specs.ShownNames.{IsNew}

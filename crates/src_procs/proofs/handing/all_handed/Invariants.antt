@@ -1,7 +1,0 @@
-use Rattle.std.proofs.Common.{◌≡◌, Some, map, take}
-use Rattle.src_procs.specs.Prelude.{arguments_under, handed, trees_seen}
-use Rattle.src_procs.proofs.handing.all_handed.Given as goal
-
-abbrev pub invariant-loop-e : goal.invariant-loop-e
-invariant-loop-e l =
-    map Some (trees_seen l.all.items) ≡ map (handed (arguments_under l.given)) (trees_seen (take l.e-index l.es))

@@ -1,6 +1,0 @@
-use Rattle.src_procs.proofs.HandedOn.{argument_added}
-use Rattle.src_procs.proofs.handing.give.Goals as goal
-
-pub returns-in-Ok : goal.returns-in-Ok
-returns-in-Ok c =
-    argument_added c.args.given.now c.insert.new.self c.args.name c.args.argument c.in-Ok.ensures.updates.0

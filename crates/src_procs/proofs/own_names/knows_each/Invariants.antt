@@ -1,8 +1,0 @@
-use Rattle.std.proofs.Common.{◌≡◌, drop}
-use Rattle.gr_base.specs.Prelude.{found_under}
-use Rattle.src_procs.specs.Prelude.{knows_each, trees_of}
-use Rattle.src_procs.proofs.own_names.knows_each.Given as goal
-
-abbrev pub invariant-loop-e : goal.invariant-loop-e
-invariant-loop-e l =
-    knows_each (found_under l.names) (trees_of (drop l.e-index l.es)) ≡ knows_each (found_under l.names) (trees_of l.es)

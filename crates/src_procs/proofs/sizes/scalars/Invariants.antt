@@ -1,9 +1,0 @@
-use Rattle.std.proofs.Common.{◌≡◌, ◌+◌, ◌-◌, ◌^◌, ◌≤◌, drop, map}
-use Rattle.src_tree.specs.Prelude.{shown_number}
-use Rattle.src_procs.specs.Prelude.{scalars, parameter_of}
-use Rattle.src_procs.proofs.sizes.scalars.Given as goal
-
-abbrev pub invariant-loop-param : goal.invariant-loop-param
-invariant-loop-param l =
-    (shown_number (l.count + scalars (map parameter_of (drop l.param-index l.params)))
-    ≡ shown_number (scalars (map parameter_of l.params))) × (l.count ≤ 2 ^ 64 - 1)
