@@ -9,7 +9,7 @@ const EXAMPLES = {
  },
  "findmax.gr": {
   "group": "Programs",
-  "source": "// Finds the greatest of the first n words of a, and the index where it first occurs.\n// The branch is on secrets: both arms show the same. a is read only at public indexes: it is in encrypted memory.\npublic int n;\npublic int i;\nsecret int a[32];\nsecret int best;\nsecret int at;\n\nbest = a[0];\nat = 0;\ni = 1;\nwhile (i < n) {\n    if (a[i] > best) {\n        best = a[i];\n        at = i;\n    }\n    i = i + 1;\n}\n",
+  "source": "// Finds the greatest of the first n words of a, and the index where it first occurs.\n// The branch is on secrets: both arms show the same events. a is read only at public indexes: it is in encrypted memory.\npublic int n;\npublic int i;\nsecret int a[32];\nsecret int best;\nsecret int at;\n\nbest = a[0];\nat = 0;\ni = 1;\nwhile (i < n) {\n    if (a[i] > best) {\n        best = a[i];\n        at = i;\n    }\n    i = i + 1;\n}\n",
   "one": "{\"n\":10,\"a\":[-882,863,39,-561,-924,-824,-112,-144,-857,-508,0,0,0,0,0,0,0,0,0,0,0,0,0,0,0,0,0,0,0,0,0,0]}",
   "two": "{\"n\":10,\"a\":[640,937,989,478,-190,-52,-178,522,939,-827,0,0,0,0,0,0,0,0,0,0,0,0,0,0,0,0,0,0,0,0,0,0]}"
  },

@@ -97,7 +97,7 @@ CALLS = {
 }
 
 
-MORE = re.compile(rb'and [0-9]+ more warnings')
+MORE = re.compile(rb'and [0-9]+ more warnings?')
 
 
 def are_said(status, words):

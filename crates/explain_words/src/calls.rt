@@ -156,21 +156,20 @@ impl<'a, 'b> Call<'a, 'b> {
     fn put_spent(&self, out: &mut Words) {
         if self.verb() == "eval" {
             out.fill(
-                "The loops reached the limit of {} iterations. Raise it with --turns N, or check for an endless \
+                "The evaluation reached the limit of iterations, {}. Raise it with --turns N, or check for an endless \
                 loop.\n",
                 &[self.number_of("--turns", USUAL_LIMIT)],
             )
         } else {
             out.fill(
-                "The run reached the limit of {} cycles. Raise it with --cycles N, or check for an endless loop.\n",
+                "The run reached the limit of cycles, {}. Raise it with --cycles N, or check for an endless loop.\n",
                 &[self.number_of("--cycles", USUAL_LIMIT)],
             )
         }
     }
 
-    /// What the fault means, by the files that were read again: nothing where nothing can be said. If the call did its work,
-    /// these are warnings of what its source and its inputs may not mean. The text is ASCII, and nothing in it acts on a
-    /// terminal.
+    /// What the fault means, by the files that the call read; empty if nothing is known. If the call did its work, these are
+    /// warnings about its source and its inputs. The text is ASCII, and nothing in it acts on a terminal.
     pub fn explained(&self, alloc: Global, files: &[File<'_>]) -> Result<Vec<u8>, Memory>
         ensures plain { IfOk result (λ text. All IsPlain text.items) }
     {

@@ -287,12 +287,14 @@ fn unfit_item(want: &Want, value: Described) -> Option<(u64, ValueKind)> {
 // What an array of a length needs in place of a value.
 fn put_list(length: u64, kind: ValueKind, out: &mut Words) {
     match kind {
-        ValueKind::List(count) => out.fill(
-            "` needs {} integers, but the list has {}",
-            &[length, count],
-        ),
+        ValueKind::List(count) => {
+            out.say("` needs ");
+            out.counted(length, "integer");
+            out.fill(", but the list has {}", &[count])
+        }
         _ => {
-            out.fill("` must be a list of {} integers", &[length]);
+            out.say("` must be a list of ");
+            out.counted(length, "integer");
             put_other(kind, out)
         }
     }
@@ -305,7 +307,7 @@ fn put_other(kind: ValueKind, out: &mut Words) {
         ValueKind::Truth => ", not true or false",
         ValueKind::Word => ", not a number",
         ValueKind::Number => "",
-        ValueKind::Text => ", not a text",
+        ValueKind::Text => ", not a string",
         ValueKind::List(_) => ", not a list",
         ValueKind::Object => ", not an object",
     })

@@ -270,7 +270,7 @@ impl Reading<'_> {
             }
             is_escaped = !is_escaped && *byte == b'\\';
         }
-        self.fault("the closing quotation mark of this text is missing in its line")
+        self.fault("this string isn't closed on its line")
     }
 
     // What follows a value: a comma, or the end of what is open.
@@ -279,7 +279,7 @@ impl Reading<'_> {
         let Some(start) = open else {
             return self.unwanted(
                 byte,
-                "the inputs end before this, with their closing bracket",
+                "unexpected text after the closing bracket of the inputs",
             );
         };
         let is_list = self.text.get(start).copied() == Some(b'[');

@@ -232,7 +232,7 @@ fn put_wanted(name: &str, kind: &str, value: Option<&str>, out: &mut Words) {
     match range_of(kind) {
         Some((least, most)) => out.fill(" takes a number from {} to {}", &[least, most]),
         None => out.say(
-            " takes three numbers P:O:C, where P is from 2 to 1000000, O is below C, and C is at most P",
+            " takes three numbers P:O:C: P is from 2 to 1000000, O is less than C, and C is at most P",
         ),
     }
     let Some(value) = value else {
@@ -265,6 +265,6 @@ fn put_places(usage: &str, sorted: &Sorted<'_>, out: &mut Words) {
             out.say("unexpected argument ");
             put_word(*word, "", out);
         }
-        None => out.line("an argument has a form that isn't allowed"),
+        None => out.line("an argument isn't valid"),
     }
 }

@@ -1,6 +1,6 @@
 //! The kinds of files, and what kind some bytes seem to be, by their first words.
 
-ghost use Rattle.std.specs.Prelude.{◌≤◌};
+ghost use Rattle.std.specs.Prelude.{◌≡◌, ◌≤◌, false};
 
 use crate::texts::{is_word_of, length_up_to, piece};
 use crate::words::Words;
@@ -139,7 +139,9 @@ fn of_kinds(wanted: FileKind, given: FileKind) -> Option<&'static str> {
 }
 
 /// If a file seems to be of another kind than was wanted, says so, and what to do with it. Returns whether it did.
-pub fn put_other_kind(name: &str, wanted: FileKind, bytes: &[u8], out: &mut Words) -> bool {
+pub fn put_other_kind(name: &str, wanted: FileKind, bytes: &[u8], out: &mut Words) -> bool
+    ensures { result ≡ false → out.new ≡ out.old }
+{
     let Some(given) = looks_like(bytes) else {
         return false;
     };

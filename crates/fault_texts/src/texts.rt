@@ -1,6 +1,7 @@
 //! Places in a text, and how they are shown.
 
-ghost use Rattle.std.specs.Prelude.{◌≡◌, ◌≤◌, ◌-◌, length, take, drop};
+ghost use Rattle.std.specs.Prelude.{◌≡◌, ◌≤◌, ◌-◌, [], length, take, drop};
+ghost use Rattle.gr_base.specs.Prelude.{Adds};
 
 use crate::words::Words;
 
@@ -160,7 +161,9 @@ impl Words {
     }
 
     /// Marks a place whose text starts at a byte. The reason comes next.
-    pub fn mark_spot(&mut self, name: &str, start: usize, spot: Spot) {
+    pub fn mark_spot(&mut self, name: &str, start: usize, spot: Spot)
+        ensures { Adds self.old self.new [] }
+    {
         self.mark(name, start, spot.line as u64, column_of(spot));
     }
 

@@ -106,7 +106,9 @@ impl Words {
     }
 
     /// Marks a place whose text starts at a byte. The reason comes next.
-    pub(crate) fn mark(&mut self, name: &str, start: usize, line: u64, column: u64) {
+    pub(crate) fn mark(&mut self, name: &str, start: usize, line: u64, column: u64)
+        ensures { Adds self.old self.new [] }
+    {
         let name_start = self.names.len();
         if self.names.extend_from_slice(name.as_bytes()).is_err() {
             self.lacks_memory = true;
@@ -125,7 +127,9 @@ impl Words {
     }
 
     /// Marks the text from a byte on as a line of a file.
-    pub(crate) fn mark_excerpt(&mut self, start: usize) {
+    pub(crate) fn mark_excerpt(&mut self, start: usize)
+        ensures { Adds self.old self.new [] }
+    {
         let end = self.text.len();
         if self.excerpts.push(Excerpt { start, end }).is_err() {
             self.lacks_memory = true;
@@ -197,6 +201,15 @@ impl Words {
                 self.say(digits.format(*value));
             }
             self.say(piece);
+        }
+    }
+
+    /// Adds a number and a noun, which is in the plural unless the number is 1: `1 cycle`, `2 cycles`.
+    pub fn counted(&mut self, number: u64, noun: &str) {
+        self.fill("{} ", &[number]);
+        self.say(noun);
+        if number != 1 {
+            self.say("s");
         }
     }
 

@@ -27,7 +27,7 @@ const MADE: &str = "made";
 const MOST_MADE: usize = 4096;
 
 /// Printed if there is no such file.
-const NOT_KNOWN: &str = "what it was made of is not known: there is no file `made` beside it\n";
+const NOT_KNOWN: &str = "its sources are unknown: there is no file `made` beside it\n";
 
 /// Does what a request asks for. `path` is the path of the program, if it is known.
 pub(crate) fn answer<'a, F: Shelf + Drop, O: Sink>(

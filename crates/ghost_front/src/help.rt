@@ -7,7 +7,7 @@ use crate::verb_table::{
 use gr_outside::{Sink, SinkFailed};
 
 /// The version of the program.
-pub const VERSION: &str = "1.10.0";
+pub const VERSION: &str = "1.11.0";
 
 /// Prints all verbs, options and exit statuses.
 pub(crate) fn put_help<O: Sink>(out: &mut O) -> Result<(), SinkFailed> {

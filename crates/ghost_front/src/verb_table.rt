@@ -74,9 +74,9 @@ pub(crate) const VERBS: [VerbHelp; 17] = [
     },
     VerbHelp {
         usage: "test SRC CASES [--fast] [--block-log W] [--window P:O:C] [--procs] [--cycles N]",
-        text: "    Compiles a program and runs it on cases, one a line of CASES: inputs and the outputs that are\n    \
-            expected. Prints each case in which the outputs of the run aren't the expected ones, or aren't\n    \
-            those of `eval`, or the trace isn't that of a case with the same public inputs.\n",
+        text: "    Compiles a program and runs it on cases. Each line of CASES is a case: inputs, and the outputs\n    \
+            that are expected. Prints each case that fails: the outputs of the run aren't the expected ones\n    \
+            or those of `eval`, or the trace differs from the trace of a case with the same public inputs.\n",
     },
     VerbHelp {
         usage: "layout SRC [--fast] [--block-log W] [--window P:O:C] [--procs]",
@@ -111,9 +111,9 @@ pub(crate) const VERBS: [VerbHelp; 17] = [
     },
     VerbHelp {
         usage: "infer OBJ OUT",
-        text: "    Finds notes with which the check accepts an object, and writes the object to OUT with these in\n    \
-            place of its own. If it finds none, it prints where and why; notes that it didn't try might do.\n    \
-            It rejects code that can't be reached, even if the check accepts it.\n",
+        text: "    Finds notes with which the check accepts an object, and writes the object to OUT with these\n    \
+            notes instead of its own. If it finds none, it prints where and why; the check might still\n    \
+            accept the object with other notes. It rejects unreachable code, even if the check accepts it.\n",
     },
     VerbHelp {
         usage: "bus OBJ INPUT .. [--cycles N] [--seed S]",

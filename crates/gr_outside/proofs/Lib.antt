@@ -1,2 +1,3 @@
 pub mod FileLists
 pub mod WrittenFiles
+pub mod NotedCalls

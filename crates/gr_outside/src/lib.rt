@@ -2,9 +2,10 @@
 //! which takes bytes. Their contracts define what they do. Each counts its own faults, so that code that uses it can
 //! show the cause of each fault that it reports. There are also shelves and sinks in memory: [`MemShelf`] and
 //! [`MemSink`] fail at calls that are chosen in advance, and [`SureShelf`] and [`SureSink`] never fail. A
-//! [`LoggedShelf`] over any shelf keeps a log of its calls.
+//! [`LoggedShelf`] over any shelf keeps a log of its calls, with their bytes, in memory that is reserved when it is made.
 #![tactic(auto)]
 
+mod call_log;
 pub mod files;
 pub mod logged_shelf;
 pub mod mem_shelf;

@@ -1,8 +1,9 @@
-ghost use Rattle.std.specs.Prelude.{◌≡◌, ◌≢◌, ◌⊎◌, ◌≤◌, ◌^◌, ◌-◌, ℕ, List, [], ◌∷◌, Option, Some, None, IfOk, IfSome, MatchOption, OnOk, OnErr, is_ok, is_some, vec_len};
+ghost use Rattle.std.specs.Prelude.{◌≡◌, ◌≢◌, ◌⊎◌, ◌≤◌, ◌^◌, ◌-◌, ℕ, List, Option, Some, None, IfOk, IfSome, MatchOption, OnOk, OnErr, if◌then◌else◌, is_ok, is_some, vec_len};
 ghost use Rattle.std.specs.Option.{option_map};
+ghost use Rattle.std.specs.Result.{result_ok};
 ghost use Rattle.std.specs.FinMap.{get};
-ghost use Rattle.gr_base.specs.Prelude.{Adds, Rose};
-ghost use Rattle.gr_outside.specs.Shelf.{ShelfCall, ShelfSeen, front_of, read_of, with_file, write_of, SameBut};
+ghost use Rattle.gr_base.specs.Prelude.{Rose};
+ghost use Rattle.gr_outside.specs.Shelf.{Log, SameBut, ShelfSeen, front_of, logged, read_of, untold, with_file, write_of};
 ghost use Rattle.gr_outside.specs.declared.shelf.ShelfError.TheVariants.{Memory};
 
 use std::alloc::{AllocError, AllocFailed};
@@ -49,10 +50,11 @@ pub trait Shelf {
     /// writes ran out of memory; and the name of the last file that couldn't be read, if that name is visible.
     ghost seen: { Self → ShelfSeen };
 
-    /// The calls so far, in order, if the shelf keeps a log of them that is visible.
+    /// The calls so far, in order, with the bytes that they returned or wrote, if the shelf keeps a log that is visible.
+    /// A shelf may leave out the calls of certain names, as one that takes a name for a stream does.
     /// why: beside what the shelf is seen as, so a read that succeeds leaves that equal. `LoggedShelf` is a shelf of
-    /// its own, since a log needs memory for each call.
-    ghost log: { Self → Option (List ShelfCall) } = { λ _. None };
+    /// its own, since a log needs memory.
+    ghost log: { Self → Log } = { λ _. untold };
 
     /// The first `most` bytes of the file with that name, or all of them if it has fewer.
     fn read(&mut self, name: &str, most: usize) -> Result<Vec<u8>, ShelfError>
@@ -78,7 +80,8 @@ pub trait Shelf {
         ensures read_count_stays { (seen self.old).read_faults ≡ 2 ^ 64 - 1
             → (seen self.new).read_faults ≡ 2 ^ 64 - 1 }
 
-        ensures logged { Adds (log self.old) (log self.new) (read_of name.now (is_ok result) ∷ []) };
+        ensures logged { log self.new
+            ≡ logged (read_of name.now (option_map (λ bytes. bytes.items) (result_ok result))) (log self.old) };
 
     /// Makes these bytes the contents of the file with that name. A write that fails may leave anything under that
     /// name.
@@ -104,5 +107,6 @@ pub trait Shelf {
         ensures starved_count { (seen self.old).starved ≤ (seen self.new).starved }
         ensures starved_count_stays { (seen self.old).starved ≡ 2 ^ 64 - 1 → (seen self.new).starved ≡ 2 ^ 64 - 1 }
 
-        ensures logged { Adds (log self.old) (log self.new) (write_of name.now (is_ok result) ∷ []) };
+        ensures logged { log self.new
+            ≡ logged (write_of name.now (if is_ok result then Some bytes.now else None)) (log self.old) };
 }

@@ -267,11 +267,10 @@ fn put_sight(refused: &Refused<'_>, way: &str, sight: Sight, out: &mut Words) {
     if sight.access.is_some() {
         out.fill("place {}: ", &[place]);
         refused.put_instruction(sight.place, out);
-        out.fill(", after {} cycles without an access\n", &[sight.gap]);
+        out.say(", after ");
     } else {
-        out.fill(
-            "reaches the join at place {} after {} cycles without an access\n",
-            &[place, sight.gap],
-        );
+        out.fill("reaches the join at place {} after ", &[place]);
     }
+    out.counted(sight.gap, "cycle");
+    out.line(" without an access");
 }

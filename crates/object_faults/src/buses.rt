@@ -1,4 +1,4 @@
-//! Why an object has no place on the bus beside others.
+//! Why an object can't share the bus with others.
 
 use fault_texts::Words;
 use lt_isa::Object;
@@ -35,19 +35,19 @@ fn reach_of(object: &Object) -> Reach {
     }
 }
 
-/// Explains why an object has no place on the bus beside those before it: the first that has none.
+/// Explains why the first object that can't share the bus with those before it can't.
 pub fn explain_bus(cores: &[Core<'_>], out: &mut Words) {
     for (number, core) in cores.iter().enumerate() {
         if let Some(why) = lack_of(cores, number, core) {
             out.name(core.name);
-            out.fill(": core {} has no place on the bus: ", &[number as u64]);
+            out.fill(": core {} can't share the bus: ", &[number as u64]);
             out.fill(why.words, &why.numbers);
             break;
         }
     }
 }
 
-/// Why a core has no place, with the numbers that go into the words.
+/// Why a core can't share the bus, with the numbers that go into the words.
 #[derive(Clone, Copy)]
 struct Lack {
     words: &'static str,
@@ -75,7 +75,7 @@ fn lack_of(cores: &[Core<'_>], number: usize, core: &Core<'_>) -> Option<Lack> {
     }
     if period < ours.up_to {
         return Some(Lack {
-            words: "its accesses may be on the bus up to cycle {} of a period, which has only {}\nClose its window \
+            words: "its accesses may use the bus up to cycle {} of a period, which has only {}\nClose its window \
             earlier, or give all objects a longer period.\n",
             numbers: [ours.up_to, period, 0, 0, 0],
         });
@@ -84,7 +84,7 @@ fn lack_of(cores: &[Core<'_>], number: usize, core: &Core<'_>) -> Option<Lack> {
         let theirs = reach_of(&other.object);
         if ours.from < theirs.up_to && theirs.from < ours.up_to {
             return Some(Lack {
-                words: "its accesses may be on the bus from cycle {} up to {} of a period, and the accesses of core {} \
+                words: "its accesses may use the bus from cycle {} up to {} of a period, and the accesses of core {} \
                 from {} up to {}\nOpen its window after the other core's accesses end, or close it before they \
                 begin.\n",
                 numbers: [

@@ -3,7 +3,7 @@
 use fault_texts::piece;
 
 /// What is allowed in a field that the instruction doesn't use.
-const NONE: &str = "any, but 0 if the instruction doesn't use it";
+const NONE: &str = "any number; 0 if the instruction doesn't use it";
 
 /// A field: what it is called, and what is allowed in it.
 #[derive(Clone, Copy)]
@@ -58,11 +58,14 @@ fn head_field(at: usize, banks: usize) -> Field {
     let (name, allowed) = match at {
         0..=3 => ("the magic", "GRLT"),
         4 | 5 => ("the version", "1, or 2 for an object with a window"),
-        6 => ("the size of a block, as w for 2^w words", "3 to 9"),
-        7 => ("the cycles of an operation", "1 to 127"),
-        8 => ("the cycles of a multiplication", "1 to 127"),
-        9 => ("the cycles of a word", "1 to 127"),
-        10 => ("the cycles of a jump", "1 to 32"),
+        6 => (
+            "the size of a block (an exponent of 2)",
+            "3 to 9, for 8 to 512 words",
+        ),
+        7 => ("the latency of an operation", "1 to 127"),
+        8 => ("the latency of a multiplication", "1 to 127"),
+        9 => ("the latency of a word", "1 to 127"),
+        10 => ("the latency of a jump", "1 to 32"),
         _ if at == banks => ("the number of banks", "2 to 10"),
         11..=14 => ("the period", "2 to 1,000,000 cycles"),
         15..=18 => ("the cycle at which the window opens", "below the period"),
@@ -78,7 +81,7 @@ fn bank_field(ahead: usize) -> Field {
     let number = Some(ahead / 8);
     if ahead % 8 < 4 {
         return field_of(
-            "the blocks of bank",
+            "the number of blocks of bank",
             "1 to 65,536 for banks 0 and 1, 1 to 4,096 for the others",
             number,
         );
@@ -120,10 +123,10 @@ fn field_of_symbol(at: usize, start: usize, place: usize, number: usize) -> Fiel
                 "the bank of symbol",
                 "a bank of the object, not below the bank of the previous symbol",
             ),
-            3..=6 => ("the block of symbol", "below the bank's blocks"),
+            3..=6 => ("the block of symbol", "below the bank's number of blocks"),
             7 | 8 => (
                 "the word of symbol",
-                "below the words of a block, and after the end of the previous symbol in its bank",
+                "below the number of words in a block, and after the end of the previous symbol in its bank",
             ),
             _ => (
                 "the length of symbol",
@@ -151,7 +154,11 @@ fn note_field(bytes: &[u8], at: usize, notes: usize) -> Field {
                 number,
             ),
             4..=7 => field_of("the secret registers of note", "any", number),
-            _ => field_of("a slot of note", "a bank's number, or 255 for any", number),
+            _ => field_of(
+                "a slot of note",
+                "a bank's number, or 255 for any bank",
+                number,
+            ),
         };
     }
     if at < code.saturating_add(4) {

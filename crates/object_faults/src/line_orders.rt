@@ -65,11 +65,11 @@ pub(crate) fn misplaced(front: &[u8], line: &[u8]) -> Disorder {
     let first = word_from(line, 0);
     let (what, hint) = match first.bytes {
         b".object" => (
-            "there is a line `.object` before this one",
+            "the text already has a line `.object`",
             Some("A text has one such line, the first."),
         ),
         _ if !front.has_object => (
-            "the first line has to be `.object`",
+            "the first line must be `.object`",
             Some(
                 "Begin the text with `.object 1 W ALU MUL WORD TAKEN`, as in `.object 1 9 1 70 2 3`.",
             ),
@@ -79,7 +79,7 @@ pub(crate) fn misplaced(front: &[u8], line: &[u8]) -> Disorder {
             Some("Put all banks directly after `.object`."),
         ),
         _ if front.banks < 2 => (
-            "two banks have to be before this line",
+            "at least two banks must come before this line",
             Some(
                 "Put at least two lines `.bank BLOCKS LATENCY` after `.object`, as in `.bank 4 634`.",
             ),
@@ -89,8 +89,8 @@ pub(crate) fn misplaced(front: &[u8], line: &[u8]) -> Disorder {
             Some("Put all symbols after the banks, before labels, notes and instructions."),
         ),
         b".note" if word_from(front.last, 0).bytes == b".note".as_slice() => (
-            "there is a note for this place already",
-            Some("Put one note before an instruction."),
+            "this place already has a note",
+            Some("An instruction has at most one note: remove one of them."),
         ),
         b".note" => (
             "no instruction follows this note",

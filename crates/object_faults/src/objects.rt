@@ -50,10 +50,9 @@ fn put_fault(bytes: &[u8], fault: DecodeError, out: &mut Words) {
         DecodeError::TrailingBytes(at) => {
             let at = place_in(bytes, at as usize);
             let more = bytes.len().saturating_sub(at);
-            out.fill(
-                ":byte {}: {} bytes follow the last instruction\n",
-                &[at as u64, more as u64],
-            )
+            out.fill(":byte {}: the file has ", &[at as u64]);
+            out.counted(more as u64, "byte");
+            out.line(" after the last instruction")
         }
         DecodeError::Memory => out.starve(),
     }

@@ -7,14 +7,14 @@ pub(crate) fn of_reason(reason: Reason) -> &'static str {
     match reason {
         Reason::SecretAddress => {
             "The observer sees which block of plain or encrypted memory is accessed. The number of this block may \
-            depend on a secret, or isn't known in an arm.\nStore what secrets index in an oblivious bank."
+            depend on a secret, or isn't known in an arm.\nStore data that secrets index in an oblivious bank."
         }
         Reason::SecretToRam => {
             "This would write a secret, or write at a secret address, to plain memory, which the observer sees.\nStore \
             it in encrypted or oblivious memory."
         }
         Reason::UnboundSlot => {
-            "A slot is used here whose bank isn't known.\nLoad the slot first, on every path to this place; if there \
+            "This instruction uses a slot whose bank isn't known here.\nLoad the slot first, on every path to this place; if there \
             is a note here, claim the slot's bank in it."
         }
         Reason::JumpOutside => "The target is outside the code.\nCorrect the target.",
@@ -27,7 +27,7 @@ pub(crate) fn of_reason(reason: Reason) -> &'static str {
             and claim only banks that are known on every path. `infer` writes the least notes."
         }
         Reason::SecretLoop => {
-            "A branch on a secret, or a jump or branch in one of its arms, goes back or to itself, so the number of \
+            "A branch on a secret, or a jump or branch in one of its arms, goes backwards or to itself, so the number of \
             iterations would leak.\nLoop on public values only."
         }
         Reason::HaltInSecret =>
@@ -38,12 +38,12 @@ pub(crate) fn of_reason(reason: Reason) -> &'static str {
         }
         Reason::UnequalArms => {
             "The two paths through a branch on a secret don't make the same accesses at the same cycles, or the check \
-            can't tell that they do.\nMake the same accesses on both paths, to blocks with the same names, and pad \
-            with `nop`s."
+            can't tell that they do.\nMake the same accesses to the same blocks on both paths, and pad with `nop`s."
         }
         Reason::BadRegion => {
-            "This branch on a secret doesn't have two arms that join, or has a note in an arm, or is nested in 64 \
-            others.\nEnd the first arm with a `jmp` over the second, so that they join after it."
+            "This branch on a secret doesn't have two arms that join, or has a note in an arm, or is nested too deeply \
+            (64 branches on secrets at most).\nEnd the first arm with a `jmp` over the second, so that they join \
+            after it."
         }
         Reason::RunsOffEnd =>
             "Execution can run past the last instruction.\nEnd the code with `halt` or `jmp`.",

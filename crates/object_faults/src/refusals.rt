@@ -1,4 +1,4 @@
-//! Why an object is refused, or gets no notes.
+//! Why an object is rejected, or gets no notes.
 
 ghost use Rattle.std.specs.Prelude.{◌<◌, ◌≤◌, ◌-◌, length};
 
@@ -107,14 +107,19 @@ impl Refused<'_> {
                     &[u64::from(count)],
                 )
             }
-            InferError::Refused { pc, reason } => {
-                self.put_head(pc as usize, out);
-                out.line(
-                    "With the least notes that `infer` finds, the check rejects the object here.",
-                );
-                out.line(of_reason(reason))
-            }
+            InferError::Refused { pc, reason } => self.put_rejected(pc as usize, reason, out),
         }
+    }
+
+    // Why the check rejects the object with the least notes.
+    fn put_rejected(&self, place: usize, reason: Reason, out: &mut Words) {
+        if reason == Reason::SecretSymbolInRam {
+            self.put_symbol(out);
+        } else {
+            self.put_head(place, out);
+            out.line("With the least notes that `infer` finds, the check rejects the object here.");
+        }
+        out.line(of_reason(reason))
     }
 
     // The name of the file, the place, and the instruction there as `dis` writes it.
@@ -311,14 +316,8 @@ fn put_secret(known: &Known, register: u8, out: &mut Words) {
 }
 
 fn put_slot(known: &Known, slot: u8, out: &mut Words) {
-    let slots = [u64::from(slot)];
-    match bank_of(known, slot) {
-        None => out.fill(
-            "The check doesn't know here which bank slot {} is bound to.\n",
-            &slots,
-        ),
-        Some(0) => out.fill("Slot {} is bound to plain memory.\n", &slots),
-        _ => {}
+    if bank_of(known, slot) == Some(0) {
+        out.fill("Slot {} is bound to plain memory.\n", &[u64::from(slot)]);
     }
 }
 

@@ -29,7 +29,7 @@ const CYCLES: usize = 8;
 /// What the comments of a listing mean.
 const HEAD: &str = "\
 ; After each line of the source are the instructions that were made of it, each with its place and its cycles.\n\
-; `pads` marks those that only make both arms of a branch on a secret show the same.\n";
+; `pads` marks those that only make both arms of a branch on a secret show the same events.\n";
 
 // A listing as far as it is made, with the place of the next instruction.
 #[derive(Drop)]

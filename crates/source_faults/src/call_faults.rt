@@ -140,7 +140,7 @@ fn put_unbound(
     };
     tokens.put(
         at,
-        " is a variable of the file, which a procedure can't access",
+        " is a variable of the file: a procedure can only access its parameters and locals",
         out,
     );
     out.say("Give ");
@@ -153,7 +153,7 @@ fn put_unbound(
         if own.is_array {
             ");`."
         } else {
-            ");`. In the procedure that name, without an index, is then the variable."
+            ");`. In the procedure, use the parameter without an index."
         },
         out,
     );

@@ -346,7 +346,7 @@ fn explain_limit(
         ),
         Which::TotalWords => tokens.put(
             tokens.declared_name(number),
-            " has more words than are left",
+            " exceeds the limit on the words of all variables",
             out,
         ),
         Which::Height => {

@@ -26,13 +26,14 @@ impl Procedures<'_> {
         );
         out.put_line(tokens.text, spot);
         if deepest.outside > 0 {
-            out.fill(
-                "This `if` is nested in {} others on secrets, and each of them counts its contents twice. Write one \
-                `if` after another instead, `if (x == 1) { .. } if (x == 2) { .. }`.\n",
-                &[deepest.outside],
+            out.say("This `if` is nested in ");
+            out.counted(deepest.outside, "other");
+            out.line(
+                " on secrets, and each of them counts its contents twice. Write one `if` after another instead, \
+                `if (x == 1) { .. } if (x == 2) { .. }`.",
             );
         }
-        out.line("Write a loop for what repeats.");
+        out.line("Use a loop for repeated statements.");
         Ok(())
     }
 

@@ -164,7 +164,8 @@ fn warn_of_index(tokens: Tokens<'_>, open: usize, count: &mut WarningCount, out:
     out.say(if is_negative { "-" } else { "" });
     out.fill("{} is out of range: ", &[number]);
     tokens.tell(name, " has ", out);
-    out.fill("{} words, so this is ", &[length]);
+    out.counted(length, "word");
+    out.say(", so this is ");
     tokens.tell(name, "[", out);
     out.fill("{}]\n", &[remainder(index, length)]);
 }

@@ -58,7 +58,7 @@ const HABITS: &[Habit] = &[
         ")",
         "",
         "==",
-        "There are no truth values: compare two expressions, as in `while (0 == 0) { .. }`.",
+        "There are no Boolean values: compare two expressions, as in `while (0 == 0) { .. }`.",
     ],
     [
         "",
@@ -101,7 +101,7 @@ const HABITS: &[Habit] = &[
         "+",
         "",
         "( - 1 x",
-        "A number has no sign `+`: remove it.",
+        "A number can't begin with `+`: remove it.",
     ],
     [
         "",
@@ -221,7 +221,7 @@ const HABITS: &[Habit] = &[
         "|",
         "",
         "",
-        "There is no `||`: repeat the block in a second `if`, or count in a variable which conditions hold.",
+        "There is no `||`: repeat the block in a second `if`, or count in a variable how many conditions hold.",
     ],
     [
         "",
@@ -253,7 +253,7 @@ const HABITS: &[Habit] = &[
         "+ - * / % & | ^ << >>",
         "=",
         "",
-        "There is no `+=` or its like: write `x = x + 1;`.",
+        "There is no `+=` or similar operator: write `x = x + 1;`.",
     ],
     ["", "", "=", ">", "", "Did you mean `>=`?"],
     [
@@ -289,7 +289,7 @@ const HABITS: &[Habit] = &[
         "or",
         "",
         "",
-        "There is no `or`: repeat the block in a second `if`, or count in a variable which conditions hold.",
+        "There is no `or`: repeat the block in a second `if`, or count in a variable how many conditions hold.",
     ],
     ["", "", "{ [", "", "( - 1 x", LISTS],
     [
@@ -314,7 +314,7 @@ const HABITS: &[Habit] = &[
         "*",
         "",
         "",
-        "There is no power: multiply, `x * x`.",
+        "There is no power operator: multiply, `x * x`.",
     ],
     [
         "",
@@ -439,7 +439,7 @@ const HABITS: &[Habit] = &[
         ")",
         "",
         ";",
-        "No `(` is open here: remove the `)`, or open it.",
+        "No `(` is open here: remove the `)`, or add a `(`.",
     ],
     [
         "",

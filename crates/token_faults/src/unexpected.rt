@@ -90,7 +90,7 @@ impl Parsed<'_> {
         if let Some(sentence) = said_of_procedures(tokens, at, wanted, self.has_procs) {
             out.line(sentence);
         } else if tokens.is(at, "}") && open.is_none() {
-            out.line("Each `{` before it is closed already: remove the `}`, or open its block.");
+            out.line("Every earlier `{` is already closed: remove the `}`, or open its block.");
         } else {
             wanted.put(out);
             put_open(tokens, open, wanted, out);
