@@ -39,3 +39,6 @@ pub mod HeadlineBuses
 pub mod EachVerb
 pub mod HeadlineOutputs
 pub mod HeadlineAll
+pub mod Members
+pub mod AllWords
+pub mod CountedLeaves

@@ -14,4 +14,5 @@ pub mod Calls
 pub mod Verbs
 pub mod Headline
 pub mod HeadlineFollows
+pub mod Counting
 pub mod Prelude

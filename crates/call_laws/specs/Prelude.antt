@@ -7,6 +7,7 @@ pub use Rattle.call_laws.specs.CompiledRuns.{RunsAsMeant}
 unfoldable pub use Rattle.call_laws.specs.CompiledRuns.{CompiledRuns, IsStoreOf}
 pub use Rattle.call_laws.specs.CompiledTexts.{TextsAsMeant}
 unfoldable pub use Rattle.call_laws.specs.CompiledTexts.{CompiledTexts}
+unfoldable pub use Rattle.call_laws.specs.Counting.{ShownAsOften, all_words, how_often}
 unfoldable pub use Rattle.call_laws.specs.Disassemble.{disassemble_work}
 unfoldable pub use Rattle.call_laws.specs.Evaluate.{evaluate_work, evaluates_on, on_left}
 pub use Rattle.call_laws.specs.Headline.{Compiles, Evaluates, HasRun, Headline, HoldsInputs, HoldsObject, HoldsOblivious, Infers, IsObjectOf, NameOutput, Runs, Shares, Traces}

@@ -3,6 +3,8 @@ ghost use Rattle.call_laws.specs.Calls.{CallsAsMeant};
 ghost use Rattle.call_laws.specs.CompiledRuns.{CompiledRuns};
 ghost use Rattle.call_steps.specs.Prelude.{InferredOnce, TracesAgree, TextsAgree, IsTraceText};
 ghost use Rattle.call_laws.specs.CompiledTexts.{CompiledTexts};
+ghost use Rattle.lt_isa.specs.Prelude.{IsInRange, IsOblivious, Parts};
+ghost use Rattle.call_laws.specs.Counting.{ShownAsOften};
 ghost use Rattle.call_laws.specs.HeadlineFollows.{HeadlineFollows};
 ghost use Rattle.call_laws.specs.OneAnswer.{OneAnswer, OneSource, SomeAnswer, TraceAgrees};
 ghost use Rattle.call_laws.specs.Promises.{PromisesFollow};
@@ -95,4 +97,12 @@ pub fn words_ask()
 /// what every call promises. It speaks of the words, the files, what was printed and the status only.
 pub fn headline_follows()
     ensures { HeadlineFollows }
+{}
+
+/// Does nothing; its clause is a law of oblivious objects. Two runs on inputs that agree show leaves of an oblivious
+/// bank equally often: of all lists of random words of the length that the runs draw, as many make the one run show
+/// given leaves as the other.
+#[tactic(auto, using(crate::proofs::CountedLeaves::shown_as_often))]
+pub fn leaves_counted()
+    ensures { (o : Parts) → IsInRange o → IsOblivious o → ShownAsOften o }
 {}

@@ -10,6 +10,6 @@ pub mod laws;
 
 pub use laws::{
     bus_agrees, calls_as_meant, compiled_runs, compiled_texts, headline_follows, inferred_once,
-    one_answer, one_source, promises_follow, some_answer, trace_agrees, trace_alone, traces_agree,
-    words_ask,
+    leaves_counted, one_answer, one_source, promises_follow, some_answer, trace_agrees,
+    trace_alone, traces_agree, words_ask,
 };
