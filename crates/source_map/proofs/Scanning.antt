@@ -21,7 +21,8 @@ pub scans_next : (at new : ℕ) (scan next : Scan) (tokens : List Token) (i : �
     → scans at scan (token_kinds (drop i tokens)) ≡ scans new next (token_kinds (drop (i + 1) tokens))
 scans_next at new scan next tokens i token low is count step =
     let e : drop i tokens ≡ token ∷ drop (i + 1) tokens =
-    drop-cons tokens i token low ∙ ap (λ z. z ∷ drop (suc i) tokens) (sym is) ∙ ap (λ n. token ∷ drop n tokens) (let s : suc i ≡ i + 1 = omega arith in s) in
+    drop-cons tokens i token low ∙ ap (λ z. z ∷ drop (suc i) tokens) (sym is)
+    ∙ ap (λ n. token ∷ drop n tokens) (let s : suc i ≡ i + 1 = omega arith in s) in
     ap (λ z. scans at scan (token_kinds z)) e
     ∙ ap (λ n. scans n (scanned at scan token.kind) (token_kinds (drop (i + 1) tokens))) (sym count)
     ∙ ap (λ z. scans new z (token_kinds (drop (i + 1) tokens))) (sym step)

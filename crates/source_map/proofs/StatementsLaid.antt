@@ -58,7 +58,8 @@ module _ {S : Type 0} {make : Makers S} {Own : List Kind → S → Type 0} {Is :
 
   -- one statement, and then others
   laid_then : {s : S} {xs ys : List S} (own rest before after : List Kind) (x : Stand)
-      (closed : Closed Is whole x own xs) → Is own s → whole ≡ before ++ ((own ++ rest) ++ after) → x.at ≡ length before → 0 < length own
+      (closed : Closed Is whole x own xs) → Is own s → whole ≡ before ++ ((own ++ rest) ++ after)
+      → x.at ≡ length before → 0 < length own
       → ((y : Stand) → y.at ≡ length (before ++ own) → Laid Is whole y rest ys)
       → Laid Is whole x (own ++ rest) ((s ∷ xs) ++ ys)
   laid_then {s} {xs} {ys} own rest before after x closed is split place some others =

@@ -93,7 +93,8 @@ pub fn map_of(alloc: Global, tokens: &[Token]) -> Result<SourceMap, Memory>
 /// The program of a text of at most 1,048,576 bytes with the places of its statements, or the text's first fault.
 pub fn read_placed(alloc: Global, text: &[u8]) -> Result<Placed<Program>, Fail<TextFault>>
     requires { length text.now ≤ 2 ^ 20 }
-    ensures placed { IfOk result (λ placed. HasTokens (λ tokens. IsPlaced (token_kinds tokens) placed.tree placed.map) text.now) }
+    ensures placed { IfOk result (λ placed. HasTokens
+        (λ tokens. IsPlaced (token_kinds tokens) placed.tree placed.map) text.now) }
     ensures refused { IfErr result (IfFault (λ fault. ExplainsText fault text.now)) }
 {
     read_text::<PlacedReader<ProgramReader>>(alloc, text)
@@ -103,8 +104,8 @@ pub fn read_placed(alloc: Global, text: &[u8]) -> Result<Placed<Program>, Fail<T
 /// fault. The statements of procedures come first, and a call is one statement.
 pub fn read_placed_file(alloc: Global, text: &[u8]) -> Result<Placed<ProcFile>, Fail<TextFault>>
     requires { length text.now ≤ 2 ^ 20 }
-    ensures placed { IfOk result (λ placed. HasTokens (λ tokens. IsPlacedFile (token_kinds tokens) placed.tree placed.map)
-        text.now) }
+    ensures placed { IfOk result (λ placed. HasTokens
+        (λ tokens. IsPlacedFile (token_kinds tokens) placed.tree placed.map) text.now) }
     ensures refused { IfErr result (IfFault (λ fault. ExplainsFileText fault text.now)) }
 {
     read_text::<PlacedReader<FileReader>>(alloc, text)
