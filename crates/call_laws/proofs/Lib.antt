@@ -39,6 +39,8 @@ pub mod HeadlineBuses
 pub mod EachVerb
 pub mod HeadlineOutputs
 pub mod HeadlineAll
+pub mod LoggedCalls
+pub mod ReadBytes
 pub mod Members
 pub mod AllWords
 pub mod CountedLeaves

@@ -14,5 +14,6 @@ pub mod Calls
 pub mod Verbs
 pub mod Headline
 pub mod HeadlineFollows
+pub mod ReadBytes
 pub mod Counting
 pub mod Prelude
