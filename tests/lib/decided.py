@@ -1,4 +1,4 @@
-"""What docs/DECISIONS.md says of the program's answers, for docs/tried, which is the tool that makes the calls.
+"""What DECISIONS and the reference pages say of results, for docs/tried, which is the tool that makes the calls.
 
 Each try has some words of the sentence that says so, what came, and what should come.
 """
@@ -39,11 +39,11 @@ def objects(tool):
     empty = checked(head + 'br eq r2 r1 -> +2\njmp -> +1\nhalt\n')
     yield 'for its unequal arms (reason 10)', empty, 'fault 7 refused 3 10'
     for target, reason in (4, 5), (6, 6):
-        yield f'`refused 3 {reason}`', inferred(start + eight.format(target)), f'fault 7 refused 3 {reason}'
+        yield 'the check refuses it with reason 5, or 6 if another jump', inferred(start + eight.format(target)), f'fault 7 refused 3 {reason}'
     into = 'br eq r1 r1 -> 6\nbr eq r2 r1 -> 7\nnop\njmp -> 8\nnop\nhalt\n'
     yield 'the check refuses the region for this note (reason 11)', inferred(head + into), 'fault 7 refused 4 11'
     wrong = 'li r1 0\n' + note.replace('00000000', 'ffffffff') + 'ldb 0 D r1\nhalt\n'
-    yield 'ignores the notes that an object has', inferred(start + wrong), 'inferred 0'
+    yield 'ignores those that the object has', inferred(start + wrong), 'inferred 0'
     unit = start.replace('.object 1 3 1 70 2 3', '.object 2 3 1 70 2 3 1 0 1')
     yield 'only version 1 of the object file can encode it', checked(unit + 'halt\n'), 'fault 12 assembly number 1'
     checked(start + 'halt\n')
@@ -79,9 +79,9 @@ def sources(tool):
         said = tool.compiled(text, '9', *(['--procs'] if 'proc ' in text or '__' in text else []))
         yield words, said, f'fault 8 source {line}'
     local = 'public int r[2]; proc f(int o[]; public int k) { public int l; l = l + 1; o[k] = l; } f(r; 0); f(r; 1);'
-    yield 'Locals are 0 at each call', evaluated(tool, local, 'r'), [1, 1]
+    yield 'with all locals set to 0', evaluated(tool, local, 'r'), [1, 1]
     alias = evaluated(tool, 'public int r[2]; proc f(int o[]) { o[0] = 5; } f(r);', 'r')
-    yield 'is another name, not a copy', alias, [5, 0]
+    yield 'is another name for a variable of the caller', alias, [5, 0]
     for depth, line in (11, 'compiled'), (12, 'fault 8 source limit weight 12285'):
         said = tool.compiled('secret int s; ' + depth * 'if (s > 0) { ' + depth * '} ', '9')
         yield 'at most 11 can be nested', said, line
@@ -104,21 +104,21 @@ def calls(tool):
     tool.compiled('secret int s; secret int a[2048]; a[s] = 1;', '9')
     tool.write('made.json', '{}')
     lines = tool.call('trace', 'made.obj', 'made.json', '--paths').split('\n')
-    yield 'Levels are printed after the last line', (lines[-2], lines[-1][:9]), ('end halted', 'levels 2 ')
+    yield 'after the last line, in order of banks', (lines[-2], lines[-1][:9]), ('end halted', 'levels 2 ')
     lines = tool.call('trace', 'made.obj', 'made.json', '--paths', '--recursive').split('\n')
     yield 'prints no levels of recursive banks', lines[-1], 'end halted'
     for name, told in (('\x7f', '\\u007f'), ('\x9f', '\\u009f'), ('\xa0', '\xa0'), ('\u200b', '\\u200b'),
                        ('a\u202eb', 'a\\u202eb'), ('\U000e0041', '\\udb40\\udc41'), ('\u00e9', '\u00e9')):
         tool.write('made.json', json.dumps({name: 1}, ensure_ascii=False))
         said = tool.call('run', 'made.obj', 'made.json', 'made.out')
-        yield 'In the name of an input hidden characters are escaped', said, f'fault 9 input unknown "{told}"'
+        yield 'are printed as JSON strings', said, f'fault 9 input unknown "{told}"'
     for words, asked, line in (
             ('`--paths=true` is a usage error', ['trace', 'x', 'y', '--paths=true'], 'fault 2 usage'),
             ('`--paths` and `--recursive` take no value', ['run', 'x', 'y', 'z', '--recursive=true'], 'fault 2 usage'),
-            ('An option that is given twice', ['run', 'x', 'y', 'z', '--seed', '1', '--seed', '1'], 'fault 2 usage'),
-            ('so are help and version', ['check', '--version'], 'fault 2 usage'),
-            ('so a name there may begin with a hyphen', ['check', '--', '-x'], 'fault 3 read -x'),
+            ('Giving an option twice is an error', ['run', 'x', 'y', 'z', '--seed', '1', '--seed', '1'], 'fault 2 usage'),
+            ('help and version after a verb are usage errors', ['check', '--version'], 'fault 2 usage'),
+            ('After `--` each argument is the name of a file', ['check', '--', '-x'], 'fault 3 read -x'),
             ('is rejected with status 4', ['dis', 'made.obj', '/dev/stdout'], 'fault 4 write /dev/stdout'),
             ('The null device may be both', ['dis', 'made.obj', '/dev/null'], 'disassembled'),
-            ("ends without a line if a word isn't valid UTF-8", ['check', b'\xff'], '')):
+            ("prints no line if an argument isn't valid UTF-8", ['check', b'\xff'], '')):
         yield words, tool.call(*asked), line

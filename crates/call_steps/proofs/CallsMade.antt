@@ -1,10 +1,9 @@
 -- The calls of a shelf follow the work, step by step.
-use Rattle.std.proofs.Common.{◌≡◌, inl, inr, ℕ, Bool, true, false, List, [], ◌∷◌, Option, Some, sym, ap, ◌∙◌, subst}
+use Rattle.std.proofs.Common.{◌≡◌, inl, inr, ℕ, List, Option, Some, None, if◌then◌else◌, sym, ap, ◌∙◌, subst}
 use Rattle.std.specs.Prelude.{option_and_then}
-use Rattle.gr_base.specs.Prelude.{Adds}
-use Rattle.gr_outside.specs.Prelude.{read_of}
+use Rattle.gr_outside.specs.Prelude.{Log, logged, read_of, write_of}
 use Rattle.call_replies.specs.declared.replies.Done.{Done}
-use Rattle.call_steps.specs.Prelude.{Work, Reads, Writes, Follows, StopsHere, ReadFails, ReadsOn, WritesLast, Makes, CallsOf, TriesRead, TriesWrite, Log}
+use Rattle.call_steps.specs.Prelude.{Work, Reads, Writes, Follows, StopsHere, ReadFails, ReadsOn, WritesLast, Makes, CallsOf, TriesRead, TriesWrite}
 
 -- a read that may have failed is the first call of a work that reads
 pub read-tried : (name : List ℕ) (limit : ℕ) (next : List ℕ → Work) (before after : Log)
@@ -16,18 +15,21 @@ read-tried name limit next before after tries = elim tries [
   | inr read ↦ go read.0 read.1
 ]
   where
-    go : (done : Bool) → Adds before after (read_of name done ∷ []) → Follows (Reads name limit next) before after
-    go true adds = ReadsOn name limit next [] before after after adds (StopsHere (next []) after)
-    go false adds = ReadFails name limit next before after adds
+    go : (bytes : Option (List ℕ)) → after ≡ logged (read_of name bytes) before
+        → Follows (Reads name limit next) before after
+    go (Some bytes) is = ReadsOn name limit next bytes before after after is (StopsHere (next bytes) after)
+    go None is = ReadFails name limit next before after is
 
 -- so is a write
-pub write-tried : (name bytes : List ℕ) (done : Done) (before after : Log)
-    → TriesWrite name before after → Follows (Writes name bytes done) before after
-write-tried name bytes done before after tries = elim tries [
+pub write-tried : (name bytes slice : List ℕ) (done : Done) (before after : Log) → slice ≡ bytes
+    → TriesWrite name slice before after → Follows (Writes name bytes done) before after
+write-tried name bytes slice done before after is tries = elim tries [
   | inl same ↦
       subst (λ (l : Log). Follows (Writes name bytes done) before l) (sym same)
       (StopsHere (Writes name bytes done) before)
-  | inr write ↦ WritesLast name bytes done write.0 before after write.1
+  | inr write ↦
+      WritesLast name bytes done write.0 before after
+      (write.1 ∙ ap (λ (b : List ℕ). logged (write_of name (if write.0 then Some b else None)) before) is)
 ]
 
 -- the calls of the work that the words ask for

@@ -1,7 +1,6 @@
 -- How far the steps of a verb's work come: a file that is read, a question with its right result, steps in sequence.
-use Rattle.std.proofs.Common.{◌≡◌, ℕ, true, List, [], ◌∷◌, Result, Ok, Err, IfErr, IsErrAnd, refl, sym, ap₂, ◌∙◌, subst}
-use Rattle.gr_base.specs.Prelude.{Adds}
-use Rattle.gr_outside.specs.Prelude.{read_of}
+use Rattle.std.proofs.Common.{◌≡◌, ℕ, List, Some, Result, Ok, Err, IfErr, IsErrAnd, refl, sym, ap₂, ◌∙◌, subst}
+use Rattle.gr_outside.specs.Prelude.{logged, read_of}
 use Rattle.call_replies.specs.declared.replies.Done.{Done}
 use Rattle.call_replies.specs.declared.replies.Reply.{Reply}
 use Rattle.call_replies.specs.declared.replies.Reply.TheVariants.{NoMemory}
@@ -105,9 +104,9 @@ unread-stopped {before} {after} {name} {limit} {next} stops tried = record {
 -- the bytes of a file
 pub bytes-read : {before after : Stage} {name : List ℕ} {limit : ℕ} {bytes : List ℕ}
     → ((next : List ℕ → Work) → HasLeft before.seen (Reads name limit next) (next bytes)) → after.seen ≡ before.seen
-    → Adds before.log after.log (read_of name true ∷ []) → Finds before after (Reads name limit) bytes
-bytes-read {before} {after} {name} {limit} {bytes} leads calm adds next = record {
+    → after.log ≡ logged (read_of name (Some bytes)) before.log → Finds before after (Reads name limit) bytes
+bytes-read {before} {after} {name} {limit} {bytes} leads calm noted next = record {
   leads = leads next;
   calm = calm;
-  calls = λ last rest. ReadsOn name limit next bytes before.log after.log last adds rest;
+  calls = λ last rest. ReadsOn name limit next bytes before.log after.log last noted rest;
 }

@@ -1,5 +1,5 @@
 -- From a fault to its line, and from events to the text of a trace.
-use Rattle.std.proofs.Common.{◌≡◌, ◌≢◌, ◌⊎◌, inl, inr, Bool, ℕ, zero, suc, ℤ, List, [], ◌∷◌, Option, Some, None, Err, IfSome, refl, sym, ap, ◌∙◌, arith}
+use Rattle.std.proofs.Common.{◌≡◌, ◌≢◌, ◌⊎◌, inl, inr, Bool, ℕ, zero, suc, ℤ, List, [], ◌∷◌, Option, Some, None, Err, IfSome, refl, sym, ap, arith}
 use Rattle.gr_word.specs.declared.variables.Want.{Want}
 use Rattle.lt_isa.specs.Prelude.{Parts, Observed, RamRead, RamWrite, EncRead, EncWrite, Oram, Halted, Stamped, seen_at, HaltsAt}
 use Rattle.object_file.specs.declared.errors.DecodeError.{DecodeError}

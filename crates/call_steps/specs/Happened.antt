@@ -1,17 +1,12 @@
--- What a call does with its files and its output: which files it reads and writes, in which order, as far as the log of
--- the shelf is visible, and what the sink holds back. It is the clause `happened` of `ghostrider`.
+-- What a call does with its files and its output: which files it reads and writes, in which order and which bytes, as far
+-- as the log of the shelf is visible, and what the sink holds back. It is the clause `happened` of `ghostrider`.
 -- (This project's profile.)
-use Rattle.std.specs.Prelude.{◌≡◌, ◌≢◌, ◌⊎◌, ℕ, Bool, true, false, List, [], ◌∷◌, ◌++◌, Option, Some, None}
-use Rattle.gr_base.specs.Added.{Adds}
-use Rattle.gr_outside.specs.Shelf.{ShelfCall, read_of, write_of}
+use Rattle.std.specs.Prelude.{◌≡◌, ◌≢◌, ◌⊎◌, ℕ, List, [], ◌∷◌, ◌++◌, Option, Some, None}
+use Rattle.gr_outside.specs.Shelf.{Log, logged, read_of, write_of}
 use Rattle.command_words.specs.CommandLines.{Part, Text}
 use Rattle.command_words.specs.VerbLines.{Call}
 use Rattle.command_words.specs.declared.verbs.Verb.{Verb}
-use Rattle.command_words.specs.declared.verbs.Verb.TheVariants.{Assemble, Bus, Check, Compile, Disassemble, Evaluate, Infer, Run, Sample, Trace}
-
--- the log of a shelf, if it is visible
-abbrev pub Log : Type 0
-Log = Option (List ShelfCall)
+use Rattle.command_words.specs.declared.verbs.Verb.TheVariants.{Bus, Check, Sample, Trace}
 
 -- The calls from one log to another are reads of these files in their order, and after them one write of the output.
 -- No call follows a read that failed or a write. The calls may stop anywhere, since a file may be rejected and memory
@@ -19,12 +14,12 @@ Log = Option (List ShelfCall)
 pub data InOrder (output : Option Text) : List Text → Log → Log → Type 0 where
   NoFurther : (files : List Text) (log : Log) → InOrder output files log log
   FailsToRead : (name : Text) (files : List Text) (before after : Log)
-      → Adds before after (read_of name false ∷ []) → InOrder output (name ∷ files) before after
-  ReadsNext : (name : Text) (files : List Text) (before between after : Log)
-      → Adds before between (read_of name true ∷ []) → InOrder output files between after
+      → after ≡ logged (read_of name None) before → InOrder output (name ∷ files) before after
+  ReadsNext : (name : Text) (bytes : List ℕ) (files : List Text) (before between after : Log)
+      → between ≡ logged (read_of name (Some bytes)) before → InOrder output files between after
       → InOrder output (name ∷ files) before after
-  WritesOutput : (name : Text) (done : Bool) (before after : Log) → output ≡ Some name
-      → Adds before after (write_of name done ∷ []) → InOrder output [] before after
+  WritesOutput : (name : Text) (bytes : Option (List ℕ)) (before after : Log) → output ≡ Some name
+      → after ≡ logged (write_of name bytes) before → InOrder output [] before after
 
 -- A verb that writes a file reads the files of its names before the last, and writes the last one. The first name of
 -- `sample` is a number. Any other verb reads the files of all its names.

@@ -9,7 +9,7 @@ unfoldable pub use Rattle.call_steps.specs.Compiled.{HasLayoutFor, HasRoom, IsCo
 pub use Rattle.call_steps.specs.Counting.{CountsEvents}
 unfoldable pub use Rattle.call_steps.specs.Counting.{Counts, IsCountOf, counted, counted_all, how_many, is_encrypted, is_plain, is_second}
 pub use Rattle.call_steps.specs.Happened.{CallsItsFiles, FailsToRead, Happened, InOrder, NoFurther, ReadsNext, WritesOutput}
-unfoldable pub use Rattle.call_steps.specs.Happened.{AreFiles, Log}
+unfoldable pub use Rattle.call_steps.specs.Happened.{AreFiles}
 pub use Rattle.call_steps.specs.Histogram.{IsMade, Made}
 unfoldable pub use Rattle.call_steps.specs.Histogram.{figures_of, histogram_number, histogram_numbers, next_number, sample_cycles, sample_inputs, sample_profile, sample_store, sample_target, sample_text, sample_trace, sample_words, sum_left, sum_of}
 pub use Rattle.call_steps.specs.Inferred.{GetsNotes}

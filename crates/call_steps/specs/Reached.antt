@@ -2,11 +2,10 @@
 -- private functions and proofs say so.)
 use Rattle.std.specs.Prelude.{◌≡◌, ℕ, ℤ, List, Some}
 use Rattle.lt_isa.specs.Object.{Parts}
-use Rattle.gr_outside.specs.Shelf.{ShelfSeen}
+use Rattle.gr_outside.specs.Shelf.{Log, ShelfSeen}
 use Rattle.gr_outside.specs.Sink.{SinkSeen}
 use Rattle.call_replies.specs.Texts.{Said}
 use Rattle.call_steps.specs.CallsFollow.{Follows}
-use Rattle.call_steps.specs.Happened.{Log}
 use Rattle.call_steps.specs.Outside.{Explains, outside}
 use Rattle.call_steps.specs.Progress.{HasLeft, Stops}
 use Rattle.call_steps.specs.Steps.{with_accepted, with_inputs}

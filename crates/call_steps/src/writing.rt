@@ -24,7 +24,7 @@ pub fn write_and_say<'a, F: Shelf, O: Sink>(
     ensures starved { IfErr result (λ reply. said reply ≡ no_memory) }
     ensures unwritten { OnErr result (F.seen shelf.new ≡ F.seen shelf.old) }
     ensures unput { OnErr result (O.seen out.new ≡ O.seen out.old) }
-    ensures calls { TriesWrite name.now (F.log shelf.old) (F.log shelf.new) }
+    ensures calls { TriesWrite name.now bytes.now (F.log shelf.old) (F.log shelf.new) }
 {
     let unwritten = line_of(alloc, &Reply::Unwritten(name))?;
     let wrote = line_of(alloc, &Reply::Wrote(done))?;

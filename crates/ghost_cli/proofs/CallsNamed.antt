@@ -1,10 +1,9 @@
 -- The calls of a shelf that follow a verb's work are those of its files in their order.
-use Rattle.std.proofs.Common.{◌≡◌, ◌⊎◌, inl, inr, ℕ, ◌+◌, ℤ, Bool, true, false, cond, List, [], ◌∷◌, codes, length, Option, Some, None, Result, Ok, Err, refl, sym, ap, ◌∙◌, subst, arith}
+use Rattle.std.proofs.Common.{◌≡◌, ◌⊎◌, inl, inr, ℕ, ◌+◌, ℤ, Bool, true, false, cond, List, [], ◌∷◌, codes, length, Option, Some, None, if◌then◌else◌, Result, Ok, Err, refl, sym, ap, ◌∙◌, subst, arith}
 use Rattle.std.specs.Prelude.{nat_lt}
 use Rattle.std.specs.Option.{option_map}
 use Rattle.std.proofs.lemmas.Option.{same_Some}
-use Rattle.gr_base.specs.Prelude.{Adds}
-use Rattle.gr_outside.specs.Prelude.{read_of}
+use Rattle.gr_outside.specs.Prelude.{Log, logged, read_of}
 use Rattle.gr_word.specs.declared.variables.Want.{Want}
 use Rattle.lt_isa.specs.Prelude.{Parts}
 use Rattle.src_tree.specs.Prelude.{Source}
@@ -21,7 +20,7 @@ use Rattle.command_words.specs.declared.verbs.Verb.TheVariants.{Assemble, Bus, C
 use Rattle.call_steps.specs.declared.targets.Target.{Target}
 use Rattle.call_laws.specs.Prelude.{assemble_work, check_work, disassemble_work, evaluate_work, on_left, infer_work, on_inferred, on_sampled, sample_work, work_of, works}
 use Rattle.machine_verbs.specs.Prelude.{Read, bus_work, none_read, on_plan, one_read, shares_bus, with_cores, with_halts, on_halt, run_work, shows_on, trace_work}
-use Rattle.call_steps.specs.Prelude.{AsksOn, CallsOf, Follows, Makes, NoCalls, ReadFails, ReadsOn, StopsHere, TriesWrite, WritesLast, compile_work, on_compiled, AreFiles, CallsItsFiles, FailsToRead, InOrder, Log, NoFurther, ReadsNext, WritesOutput, Made, Answer, Question, on_judged, or_ends, with_accepted, with_assembly, with_object, with_source, with_variables, Asks, Ends, Reads, Work, Writes}
+use Rattle.call_steps.specs.Prelude.{AsksOn, CallsOf, Follows, Makes, NoCalls, ReadFails, ReadsOn, StopsHere, TriesWrite, WritesLast, compile_work, on_compiled, AreFiles, CallsItsFiles, FailsToRead, InOrder, NoFurther, ReadsNext, WritesOutput, Made, Answer, Question, on_judged, or_ends, with_accepted, with_assembly, with_object, with_source, with_variables, Asks, Ends, Reads, Work, Writes}
 use Rattle.command_words.proofs.VerbWords.{words-ask}
 use Rattle.call_laws.proofs.EachVerb.{asks-nothing, each-verb}
 use Rattle.std.specs.Borrow.{Bor}
@@ -30,10 +29,10 @@ use Rattle.std.specs.Borrow.{Bor}
 
 abbrev OfCalls : Work → Log → Log → Type 0
 OfCalls (Ends seen verdict) before after = after ≡ before
-OfCalls (Writes name bytes done) before after = TriesWrite name before after
+OfCalls (Writes name bytes done) before after = TriesWrite name bytes before after
 OfCalls (Reads name limit next) before after =
-    (after ≡ before) ⊎ Adds before after (read_of name false ∷ [])
-    ⊎ ((bytes : List ℕ) × (between : Log) × Adds before between (read_of name true ∷ [])
+    (after ≡ before) ⊎ (after ≡ logged (read_of name None) before)
+    ⊎ ((bytes : List ℕ) × (between : Log) × (between ≡ logged (read_of name (Some bytes)) before)
     × Follows (next bytes) between after)
 OfCalls (Asks question next) before after =
     (after ≡ before) ⊎ ((answer : Answer question) × Follows (next answer) before after)
@@ -44,11 +43,11 @@ no-calls other log = inl refl
 
 of-calls : (work : Work) (before after : Log) → Follows work before after → OfCalls work before after
 of-calls work before after (StopsHere work' log) = no-calls work before
-of-calls work before after (ReadFails name limit next before' after' adds) = inr (inl adds)
-of-calls work before after (ReadsOn name limit next bytes before' between after' adds rest) =
-    inr (inr (bytes, between, adds, rest))
+of-calls work before after (ReadFails name limit next before' after' noted) = inr (inl noted)
+of-calls work before after (ReadsOn name limit next bytes before' between after' noted rest) =
+    inr (inr (bytes, between, noted, rest))
 of-calls work before after (AsksOn question next answer before' after' rest) = inr (answer, rest)
-of-calls work before after (WritesLast name bytes done written before' after' adds) = inr (written, adds)
+of-calls work before after (WritesLast name bytes done written before' after' noted) = inr (written, noted)
 
 -- ---- each work reads its files in their order
 
@@ -71,9 +70,9 @@ module _ (output : Option Text) where
   writes : (name : Text) → output ≡ Some name → (bytes : List ℕ) (done : Done) → InTurn [] (Writes name bytes done)
   writes name is bytes done before after follows = go (of-calls (Writes name bytes done) before after follows)
     where
-      go : TriesWrite name before after → InOrder output [] before after
+      go : TriesWrite name bytes before after → InOrder output [] before after
       go (inl same) = stays [] before after same
-      go (inr call) = WritesOutput name call.0 before after is call.1
+      go (inr call) = WritesOutput name (if call.0 then Some bytes else None) before after is call.1
 
   reads : (name : Text) (files : List Text) (limit : ℕ) (next : List ℕ → Work)
       → ((bytes : List ℕ) → InTurn files (next bytes)) → InTurn (name ∷ files) (Reads name limit next)
@@ -82,7 +81,7 @@ module _ (output : Option Text) where
       go : OfCalls (Reads name limit next) before after → InOrder output (name ∷ files) before after
       go (inl same) = stays (name ∷ files) before after same
       go (inr (inl failed)) = FailsToRead name files before after failed
-      go (inr (inr on)) = ReadsNext name files before on.1 after on.2 (all on.0 on.1 after on.3)
+      go (inr (inr on)) = ReadsNext name on.0 files before on.1 after on.2 (all on.0 on.1 after on.3)
 
   asks : (files : List Text) (question : Question) (next : Answer question → Work)
       → ((answer : Answer question) → InTurn files (next answer)) → InTurn files (Asks question next)

@@ -1,4 +1,4 @@
-use Rattle.std.proofs.Common.{ap, inl, inr, Err, false, true, arith}
+use Rattle.std.proofs.Common.{ap, inl, inr, Err, None, Some, arith}
 use Rattle.call_steps.proofs.Progressing.{read-leads, read-long, read-missing, read-failed, read-starved}
 use Rattle.call_steps.proofs.Reaching.{bytes-read, unread-stopped}
 use Rattle.call_steps.proofs.reading.read_whole.Goals as goal
@@ -8,7 +8,7 @@ returns-then-len-limit-clause-stopped g c next =
     unread-stopped
     (read-long (g.F.Shelf.seen c.args.shelf.now) _ _ _ _ c.in-Ok.ensures.bytes
     (omega (arith, c.if-len-limit.true, c.len.ensures)) c.in-Ok.ensures.calm next)
-    (inr (true, c.in-Ok.ensures.logged))
+    (inr (Some _, c.in-Ok.ensures.logged))
 
 pub returns-else-len-limit-clause-found : goal.returns-else-len-limit-clause-found
 returns-else-len-limit-clause-found g c =
@@ -26,7 +26,7 @@ returns-in-Err-Missing-clause-stopped g c next =
       named = c.in-Err-Missing.ensures.named (inl (ap Err c.in-Err-Missing.field-0-is));
     })
     next)
-    (inr (false, c.in-Err-Missing.ensures.logged))
+    (inr (None, c.in-Err-Missing.ensures.logged))
 
 pub returns-in-Err-Failed-clause-stopped : goal.returns-in-Err-Failed-clause-stopped
 returns-in-Err-Failed-clause-stopped g c next =
@@ -38,11 +38,11 @@ returns-in-Err-Failed-clause-stopped g c next =
       named = c.in-Err-Failed.ensures.named (inr (ap Err c.in-Err-Failed.field-0-is));
     })
     next)
-    (inr (false, c.in-Err-Failed.ensures.logged))
+    (inr (None, c.in-Err-Failed.ensures.logged))
 
 pub returns-in-Err-Memory-clause-stopped : goal.returns-in-Err-Memory-clause-stopped
 returns-in-Err-Memory-clause-stopped g c next =
     unread-stopped
     (read-starved (g.F.Shelf.seen c.args.shelf.now) _ _
     (c.in-Err-Memory.ensures.starved (ap Err c.in-Err-Memory.field-0-is)))
-    (inr (false, c.in-Err-Memory.ensures.logged))
+    (inr (None, c.in-Err-Memory.ensures.logged))

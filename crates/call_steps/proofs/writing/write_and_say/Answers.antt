@@ -1,4 +1,4 @@
-use Rattle.std.proofs.Common.{List, ℕ, ap, subst, Err, ◌∙◌}
+use Rattle.std.proofs.Common.{List, ℕ, true, false, inr, ap, subst, Err, ◌∙◌}
 use Rattle.call_steps.specs.Prelude.{PutsSaid, Written, NotWritten, Starved}
 use Rattle.call_steps.proofs.writing.write_and_say.Goals as goal
 
@@ -29,3 +29,12 @@ returns-in-Err-Failed-clause-left g c =
     (subst (λ (t : List ℕ). PutsSaid (g.O.Sink.seen c.args.out.now) (g.O.Sink.seen c.put_text-in-Err-Failed.new.out)
     (record { status = 4; text = t }) c.put_text-in-Err-Failed.result)
     (c.as_bytes-in-Err-Failed.ensures.value ∙ c.in_ok-unwritten.ensures) c.put_text-in-Err-Failed.ensures)
+
+pub returns-in-Ok-clause-calls : goal.returns-in-Ok-clause-calls
+returns-in-Ok-clause-calls g c = inr (true, c.in-Ok.ensures.logged)
+
+pub returns-in-Err-Memory-clause-calls : goal.returns-in-Err-Memory-clause-calls
+returns-in-Err-Memory-clause-calls g c = inr (false, c.in-Err-Memory.ensures.logged)
+
+pub returns-in-Err-Failed-clause-calls : goal.returns-in-Err-Failed-clause-calls
+returns-in-Err-Failed-clause-calls g c = inr (false, c.in-Err-Failed.ensures.logged)

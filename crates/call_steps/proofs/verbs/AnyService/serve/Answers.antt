@@ -19,4 +19,4 @@ returns-clause-done g c =
 pub returns-clause-calls : goal.returns-clause-calls
 returns-clause-calls g c =
     c.in_ok-file.ensures.made.calls (g.F.Shelf.log c.write_and_say.new.shelf)
-    (write-tried _ _ _ _ _ c.write_and_say.ensures.calls)
+    (write-tried _ _ _ _ _ _ c.deref.ensures.value c.write_and_say.ensures.calls)
