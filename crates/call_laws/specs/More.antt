@@ -27,18 +27,18 @@ use Rattle.command_words.specs.CommandLines.{Part, StandTogether, Text, has_flag
 use Rattle.command_words.specs.Options.{block_log_given, items_given, number_given}
 use Rattle.command_words.specs.Pairs.{Pair, pairs_of}
 use Rattle.command_words.specs.VerbLines.{Call}
-use Rattle.command_words.specs.Windows.{window_given}
+use Rattle.command_words.specs.Windows.{always_open, window_given}
 use Rattle.command_words.specs.declared.windows.Window.{Window}
 use Rattle.command_words.specs.declared.verbs.Verb.TheVariants.{Assemble, Bus, Compile, Disassemble, Evaluate, Infer, Run, Sample, Trace}
-use Rattle.call_steps.specs.Compiled.{HasRoom, IsCompiledTo}
-use Rattle.call_steps.specs.Histogram.{sample_target, sample_text}
+use Rattle.call_steps.specs.Compiled.{HasRoom}
+use Rattle.call_steps.specs.Histogram.{sample_text}
 use Rattle.call_steps.specs.Inferred.{GetsNotes}
 use Rattle.call_steps.specs.Sources.{Spells}
 use Rattle.call_steps.specs.Showing.{core_lines, transfer_lines}
 use Rattle.machine_verbs.specs.Bus.{all_halted}
 use Rattle.machine_verbs.specs.Sharing.{AreHalts}
 use Rattle.call_laws.specs.Calls.{MeansCalls}
-use Rattle.call_laws.specs.Core.{Compiles, Evaluates, GivesInputs, HoldsProgram, IsDoneOrStarved, SucceedsOrStarves}
+use Rattle.call_laws.specs.Core.{Compiles, Evaluates, GivesInputs, HoldsProgram, IsDoneOrStarved, IsObjectOf, SucceedsOrStarves}
 use Rattle.call_laws.specs.Counting.{ShownAsOften}
 use Rattle.call_laws.specs.Promises.{IsDone}
 use Rattle.call_laws.specs.Watched.{HoldsInputs, HoldsObject, done_status}
@@ -58,8 +58,8 @@ pub record SpellsForCalls (text : List ℕ) (p : Source) : Type 0 where
 
 -- the text parses as the program, with procedures or without
 abbrev pub SpellsProgram : Bool → List ℕ → Source → Type 0
-SpellsProgram false text p = SpellsSource text p
-SpellsProgram true text p = SpellsForCalls text p
+SpellsProgram false = SpellsSource
+SpellsProgram true = SpellsForCalls
 
 -- with `--fast` the variables of the object are at the places of the plan that keeps arrays in the scratchpad
 pub record CompilesFast (Accepted : Parts → Type 0) (procs : Bool) (files afterwards : Files) (source output : Text) (parts : List Part) : Type 0 where
@@ -92,15 +92,18 @@ pub record Disassembles (files afterwards : Files) (object output : Text) : Type
   pub held : HoldsObject files object o
   pub written : get afterwards output ≡ Some (canonical o)
 
--- the output file encodes an object of the histogram program for this many items, as `compile` writes it
-pub record Samples (afterwards : Files) (number output : Text) (fast : Bool) : Type 0 where
+-- The words are a call of `sample` for this many items, and its output file encodes an object of the histogram program
+-- for as many, as `compile` writes it for blocks of 2^9 words.
+pub record Samples (Accepted : Parts → Type 0) (words : List Text) (afterwards : Files) : Type 0 where
+  pub number : Text
+  pub output : Text
+  pub parts : List Part
+  pub call : Call words Sample (number ∷ output ∷ []) parts
   pub items : ℕ
   pub given : items_given number ≡ Some items
   pub bytes : List ℕ
   pub written : get afterwards output ≡ Some bytes
-  pub p : Source
-  pub program : SpellsSource (sample_text items) p
-  pub compiled : IsCompiledTo p (sample_target fast) bytes
+  pub object : IsObjectOf Accepted SpellsSource 9 always_open (sample_text items) bytes
 
 -- each pair of files holds an object and its inputs
 abbrev pub AllHeld : Files → List Pair → List Parts → List (List (List ℤ)) → Type 0
@@ -177,9 +180,8 @@ pub record More (Accepted : Parts → Type 0) (Failed : Type 0) (words : List Te
   pub disassembled : (object output : Text) (parts : List Part)
       → Call words Disassemble (object ∷ output ∷ []) parts
       → status ≡ 0 → Disassembles files afterwards object output
-  pub sampled : (number output : Text) (parts : List Part)
-      → Call words Sample (number ∷ output ∷ []) parts
-      → status ≡ 0 → Samples afterwards number output (has_flag (codes "fast") parts)
+  pub sampled : (names : List Text) (parts : List Part) → Call words Sample names parts
+      → status ≡ 0 → Samples Accepted words afterwards
   pub shared : (names : List Text) (parts : List Part) (first : Pair) (pairs : List Pair)
       → Call words Bus names parts → StandTogether names parts
       → pairs_of names ≡ Some (first ∷ pairs) → IsDone status
