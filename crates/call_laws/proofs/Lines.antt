@@ -142,18 +142,18 @@ line-of (NoWork same put) four name gained =
     absurd (gained-none _ _ _ name (inr (λ e. omega (arith, e))) (cut put four (λ e. omega (arith, e))).less gained)
 line-of (NoRoom asked' same put) four name gained =
     absurd (gained-none _ _ _ name (inr (λ e. omega (arith, e))) (cut put four (λ e. omega (arith, e))).less gained)
-line-of (Worked work ending comes (Unread other only put)) four name gained =
+line-of (Worked work ending comes calls (Unread other only put)) four name gained =
     absurd (gained-none _ _ (unread other).text name (inr (λ e. omega (arith, e)))
     (cut put four (λ e. omega (arith, e))).less gained)
-line-of (Worked work ending comes (Long other limit same put)) four name gained =
+line-of (Worked work ending comes calls (Long other limit same put)) four name gained =
     absurd (gained-none _ _ (too_long other limit).text name (inr (λ e. omega (arith, e)))
     (cut put four (λ e. omega (arith, e))).less gained)
-line-of (Worked work ending comes (Judged seen verdict same put)) four name gained =
+line-of (Worked work ending comes calls (Judged seen verdict same put)) four name gained =
     absurd (gained-none _ _ (said_at (IsVerdict seen verdict)).text name (judged-line seen verdict)
     (cut put four (verdict-other verdict 4 (omega arith) (omega arith))).less gained)
-line-of (Worked work ending comes (Written other bytes done written put)) four name gained =
+line-of (Worked work ending comes calls (Written other bytes done written put)) four name gained =
     absurd (gained-none _ _ (wrote done).text name (done-line done) (cut put four (λ e. omega (arith, e))).less gained)
-line-of (Worked work ending comes (NotWritten other bytes done refused rose calm put)) four name gained = rose
-line-of (Worked work ending comes (Starved other bytes done refused rose calm put)) four name gained =
+line-of (Worked work ending comes calls (NotWritten other bytes done refused rose calm put)) four name gained = rose
+line-of (Worked work ending comes calls (Starved other bytes done refused rose calm put)) four name gained =
     absurd (gained-none _ _ no_memory.text name (inr (λ e. omega (arith, e)))
     (cut put four (λ e. omega (arith, e))).less gained)

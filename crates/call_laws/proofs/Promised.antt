@@ -66,18 +66,18 @@ pub usage-of : {asked : Option Work} {before after : Outside} {status : ℕ}
     → Explains before after status asked → status ≡ 2 → asked ≡ None
 usage-of (NoWork same put) two = refl
 usage-of (NoRoom asked' same put) two = not-put put (λ is. omega (arith, two, is)) (λ is. omega (arith, two, is))
-usage-of (Worked work ending comes (Unread name left put)) two =
+usage-of (Worked work ending comes calls (Unread name left put)) two =
     not-put put (λ is. omega (arith, two, is)) (λ is. omega (arith, two, is))
-usage-of (Worked work ending comes (Long name limit same put)) two =
+usage-of (Worked work ending comes calls (Long name limit same put)) two =
     not-put put (λ is. omega (arith, two, is)) (λ is. omega (arith, two, is))
-usage-of (Worked work ending comes (Judged seen verdict same put)) two =
+usage-of (Worked work ending comes calls (Judged seen verdict same put)) two =
     not-put put (λ is. verdict-other verdict 2 (omega arith) (omega arith) (sym is ∙ two))
     (λ is. omega (arith, two, is))
-usage-of (Worked work ending comes (Written name bytes done written put)) two =
+usage-of (Worked work ending comes calls (Written name bytes done written put)) two =
     not-put put (λ is. omega (arith, two, is)) (λ is. omega (arith, two, is))
-usage-of (Worked work ending comes (NotWritten name bytes done refused rose calm put)) two =
+usage-of (Worked work ending comes calls (NotWritten name bytes done refused rose calm put)) two =
     not-put put (λ is. omega (arith, two, is)) (λ is. omega (arith, two, is))
-usage-of (Worked work ending comes (Starved name bytes done refused rose calm put)) two =
+usage-of (Worked work ending comes calls (Starved name bytes done refused rose calm put)) two =
     not-put put (λ is. omega (arith, two, is)) (λ is. omega (arith, two, is))
 
 -- of words that ask for no work
@@ -85,14 +85,14 @@ pub no-work : {asked : Option Work} {before after : Outside} {status : ℕ}
     → Explains before after status asked → asked ≡ None → (status ≡ 2) ⊎ (status ≡ 4) ⊎ (status ≡ 5)
 no-work (NoWork same put) none = elim (status-of put) [ inl is ↦ inl is | inr is ↦ inr (inl is) ]
 no-work (NoRoom asked' same put) none = elim (status-of put) [ inl is ↦ inr (inr is) | inr is ↦ inr (inl is) ]
-no-work (Worked work ending comes left) none = absurd (let f : ◌≡◌ {A = Option Work} (Some work) None = none in cc)
+no-work (Worked work ending comes calls left) none = absurd (let f : ◌≡◌ {A = Option Work} (Some work) None = none in cc)
 
 -- of a read that failed
 pub unread-of : {asked : Option Work} {before after : Outside} {status : ℕ}
     → Explains before after status asked → status ≡ 3 → ReadFailed asked before after
 unread-of (NoWork same put) three = not-put put (λ is. omega (arith, three, is)) (λ is. omega (arith, three, is))
 unread-of (NoRoom asked' same put) three = not-put put (λ is. omega (arith, three, is)) (λ is. omega (arith, three, is))
-unread-of {before = before} {after = after} (Worked work ending comes (Unread name left put)) three =
+unread-of {before = before} {after = after} (Worked work ending comes calls (Unread name left put)) three =
     let named = names _ work (IsUnread name) comes in
     record {
       name = name;
@@ -106,16 +106,16 @@ unread-of {before = before} {after = after} (Worked work ending comes (Unread na
         → Gives files reads now name None → MatchOption files ⊥ (λ told. get told name ≡ None) ⊎ Rose reads now
     missing None reads now name rose = inr rose
     missing (Some files) reads now name none = none
-unread-of (Worked work ending comes (Long name limit same put)) three =
+unread-of (Worked work ending comes calls (Long name limit same put)) three =
     not-put put (λ is. omega (arith, three, is)) (λ is. omega (arith, three, is))
-unread-of (Worked work ending comes (Judged seen verdict same put)) three =
+unread-of (Worked work ending comes calls (Judged seen verdict same put)) three =
     not-put put (λ is. verdict-other verdict 3 (omega arith) (omega arith) (sym is ∙ three))
     (λ is. omega (arith, three, is))
-unread-of (Worked work ending comes (Written name bytes done written put)) three =
+unread-of (Worked work ending comes calls (Written name bytes done written put)) three =
     not-put put (λ is. omega (arith, three, is)) (λ is. omega (arith, three, is))
-unread-of (Worked work ending comes (NotWritten name bytes done refused rose calm put)) three =
+unread-of (Worked work ending comes calls (NotWritten name bytes done refused rose calm put)) three =
     not-put put (λ is. omega (arith, three, is)) (λ is. omega (arith, three, is))
-unread-of (Worked work ending comes (Starved name bytes done refused rose calm put)) three =
+unread-of (Worked work ending comes calls (Starved name bytes done refused rose calm put)) three =
     not-put put (λ is. omega (arith, three, is)) (λ is. omega (arith, three, is))
 
 -- about a write or a print that failed
@@ -123,14 +123,14 @@ pub failed-of : {asked : Option Work} {before after : Outside} {status : ℕ} �
     → status ≡ 4 → Rose before.sink.faults after.sink.faults ⊎ WriteFailed asked before after
 failed-of (NoWork same put) four = inl (cut put four (λ is. omega (arith, is))).failed
 failed-of (NoRoom asked' same put) four = inl (cut put four (λ is. omega (arith, is))).failed
-failed-of (Worked work ending comes (Unread name left put)) four = inl (cut put four (λ is. omega (arith, is))).failed
-failed-of (Worked work ending comes (Long name limit same put)) four =
+failed-of (Worked work ending comes calls (Unread name left put)) four = inl (cut put four (λ is. omega (arith, is))).failed
+failed-of (Worked work ending comes calls (Long name limit same put)) four =
     inl (cut put four (λ is. omega (arith, is))).failed
-failed-of (Worked work ending comes (Judged seen verdict same put)) four =
+failed-of (Worked work ending comes calls (Judged seen verdict same put)) four =
     inl (cut put four (verdict-other verdict 4 (omega arith) (omega arith))).failed
-failed-of (Worked work ending comes (Written name bytes done written put)) four =
+failed-of (Worked work ending comes calls (Written name bytes done written put)) four =
     inl (cut put four (λ is. omega (arith, is))).failed
-failed-of (Worked work ending comes (NotWritten name bytes done refused rose calm put)) four = elim put [
+failed-of (Worked work ending comes calls (NotWritten name bytes done refused rose calm put)) four = elim put [
   | inl done' ↦ inr (record {
     name = name;
     output = (work, refl, names _ work (IsWritten name bytes done) comes);
@@ -139,7 +139,7 @@ failed-of (Worked work ending comes (NotWritten name bytes done refused rose cal
   })
   | inr short ↦ inl short.1
 ]
-failed-of (Worked work ending comes (Starved name bytes done refused rose calm put)) four =
+failed-of (Worked work ending comes calls (Starved name bytes done refused rose calm put)) four =
     inl (cut put four (λ is. omega (arith, is))).failed
 
 -- of running out of memory
@@ -148,18 +148,18 @@ pub no-room-of : {asked : Option Work} {before after : Outside} {status : ℕ}
 no-room-of (NoWork same put) five = not-put put (λ is. omega (arith, five, is)) (λ is. omega (arith, five, is))
 no-room-of (NoRoom asked' same put) five =
     record { put = (whole put (λ is. omega (arith, five, is))).put; cause = inl same }
-no-room-of (Worked work ending comes (Unread name left put)) five =
+no-room-of (Worked work ending comes calls (Unread name left put)) five =
     not-put put (λ is. omega (arith, five, is)) (λ is. omega (arith, five, is))
-no-room-of (Worked work ending comes (Long name limit same put)) five =
+no-room-of (Worked work ending comes calls (Long name limit same put)) five =
     not-put put (λ is. omega (arith, five, is)) (λ is. omega (arith, five, is))
-no-room-of (Worked work ending comes (Judged seen verdict same put)) five =
+no-room-of (Worked work ending comes calls (Judged seen verdict same put)) five =
     not-put put (λ is. verdict-other verdict 5 (omega arith) (omega arith) (sym is ∙ five))
     (λ is. omega (arith, five, is))
-no-room-of (Worked work ending comes (Written name bytes done written put)) five =
+no-room-of (Worked work ending comes calls (Written name bytes done written put)) five =
     not-put put (λ is. omega (arith, five, is)) (λ is. omega (arith, five, is))
-no-room-of (Worked work ending comes (NotWritten name bytes done refused rose calm put)) five =
+no-room-of (Worked work ending comes calls (NotWritten name bytes done refused rose calm put)) five =
     not-put put (λ is. omega (arith, five, is)) (λ is. omega (arith, five, is))
-no-room-of (Worked work ending comes (Starved name bytes done refused rose calm put)) five = record {
+no-room-of (Worked work ending comes calls (Starved name bytes done refused rose calm put)) five = record {
   put = (whole put (λ is. omega (arith, five, is))).put;
   cause = inr (record {
     name = name;
@@ -179,16 +179,16 @@ pub calm-of : {asked : Option Work} {before after : Outside} {status : ℕ}
     → Explains before after status asked → status ≢ 4 → IsCalm before after
 calm-of (NoWork same put) other = record { writes = ap writes-of same; puts = (whole put other).calm }
 calm-of (NoRoom asked' same put) other = record { writes = ap writes-of same.0; puts = (whole put other).calm }
-calm-of (Worked work ending comes (Unread name left put)) other =
+calm-of (Worked work ending comes calls (Unread name left put)) other =
     record { writes = ap writes-of left.only.0; puts = (whole put other).calm }
-calm-of (Worked work ending comes (Long name limit same put)) other =
+calm-of (Worked work ending comes calls (Long name limit same put)) other =
     record { writes = ap writes-of same; puts = (whole put other).calm }
-calm-of (Worked work ending comes (Judged seen verdict same put)) other =
+calm-of (Worked work ending comes calls (Judged seen verdict same put)) other =
     record { writes = ap writes-of same; puts = (whole put other).calm }
-calm-of (Worked work ending comes (Written name bytes done written put)) other =
+calm-of (Worked work ending comes calls (Written name bytes done written put)) other =
     record { writes = ap writes-of written; puts = (whole put other).calm }
-calm-of (Worked work ending comes (NotWritten name bytes done refused rose calm put)) other = not-put put other other
-calm-of (Worked work ending comes (Starved name bytes done refused rose calm put)) other =
+calm-of (Worked work ending comes calls (NotWritten name bytes done refused rose calm put)) other = not-put put other other
+calm-of (Worked work ending comes calls (Starved name bytes done refused rose calm put)) other =
     record { writes = calm; puts = (whole put other).calm }
 
 -- of the count of reads
@@ -196,12 +196,12 @@ pub reads-calm : {asked : Option Work} {before after : Outside} {status : ℕ} �
     → status ≢ 3 → status ≢ 4 → status ≢ 5 → after.shelf.read_faults ≡ before.shelf.read_faults
 reads-calm (NoWork same put) three four five = ap reads-of same
 reads-calm (NoRoom asked' same put) three four five = not-put put five four
-reads-calm (Worked work ending comes (Unread name left put)) three four five = not-put put three four
-reads-calm (Worked work ending comes (Long name limit same put)) three four five = ap reads-of same
-reads-calm (Worked work ending comes (Judged seen verdict same put)) three four five = ap reads-of same
-reads-calm (Worked work ending comes (Written name bytes done written put)) three four five = ap reads-of written
-reads-calm (Worked work ending comes (NotWritten name bytes done refused rose calm put)) three four five = refused.reads
-reads-calm (Worked work ending comes (Starved name bytes done refused rose calm put)) three four five = refused.reads
+reads-calm (Worked work ending comes calls (Unread name left put)) three four five = not-put put three four
+reads-calm (Worked work ending comes calls (Long name limit same put)) three four five = ap reads-of same
+reads-calm (Worked work ending comes calls (Judged seen verdict same put)) three four five = ap reads-of same
+reads-calm (Worked work ending comes calls (Written name bytes done written put)) three four five = ap reads-of written
+reads-calm (Worked work ending comes calls (NotWritten name bytes done refused rose calm put)) three four five = refused.reads
+reads-calm (Worked work ending comes calls (Starved name bytes done refused rose calm put)) three four five = refused.reads
 
 abbrev starved-count : ShelfSeen → ℕ
 starved-count s = s.starved
@@ -211,12 +211,12 @@ pub starved-calm : {asked : Option Work} {before after : Outside} {status : ℕ}
     → Explains before after status asked → status ≢ 5 → status ≢ 4 → after.shelf.starved ≡ before.shelf.starved
 starved-calm (NoWork same put) five four = ap starved-count same
 starved-calm (NoRoom asked' same put) five four = ap starved-count same.0
-starved-calm (Worked work ending comes (Unread name left put)) five four = ap starved-count left.only.0
-starved-calm (Worked work ending comes (Long name limit same put)) five four = ap starved-count same
-starved-calm (Worked work ending comes (Judged seen verdict same put)) five four = ap starved-count same
-starved-calm (Worked work ending comes (Written name bytes done written put)) five four = ap starved-count written
-starved-calm (Worked work ending comes (NotWritten name bytes done refused rose calm put)) five four = calm
-starved-calm (Worked work ending comes (Starved name bytes done refused rose calm put)) five four =
+starved-calm (Worked work ending comes calls (Unread name left put)) five four = ap starved-count left.only.0
+starved-calm (Worked work ending comes calls (Long name limit same put)) five four = ap starved-count same
+starved-calm (Worked work ending comes calls (Judged seen verdict same put)) five four = ap starved-count same
+starved-calm (Worked work ending comes calls (Written name bytes done written put)) five four = ap starved-count written
+starved-calm (Worked work ending comes calls (NotWritten name bytes done refused rose calm put)) five four = calm
+starved-calm (Worked work ending comes calls (Starved name bytes done refused rose calm put)) five four =
     not-put put five four
 
 abbrev files-of : ShelfSeen → Option Files
@@ -234,10 +234,10 @@ pub others-of : {asked : Option Work} {before after : Outside} {status : ℕ}
     → Explains before after status asked → (after.shelf.files ≡ before.shelf.files) ⊎ OnlyOutput asked before after
 others-of (NoWork same put) = inl (ap files-of same)
 others-of (NoRoom asked' same put) = inl (ap files-of same.0)
-others-of (Worked work ending comes (Unread name left put)) = inl (ap files-of left.only.0)
-others-of (Worked work ending comes (Long name limit same put)) = inl (ap files-of same)
-others-of (Worked work ending comes (Judged seen verdict same put)) = inl (ap files-of same)
-others-of {before = before} (Worked work ending comes (Written name bytes done written put)) = inr (record {
+others-of (Worked work ending comes calls (Unread name left put)) = inl (ap files-of left.only.0)
+others-of (Worked work ending comes calls (Long name limit same put)) = inl (ap files-of same)
+others-of (Worked work ending comes calls (Judged seen verdict same put)) = inl (ap files-of same)
+others-of {before = before} (Worked work ending comes calls (Written name bytes done written put)) = inr (record {
   name = name;
   output = (work, refl, names _ work (IsWritten name bytes done) comes);
   others = spared name bytes before.shelf.files _ (ap files-of written);
@@ -248,13 +248,13 @@ others-of {before = before} (Worked work ending comes (Written name bytes done w
     spared name bytes None left is = ap (option_map (λ f. remove f name)) is
     spared name bytes (Some files) left is =
         ap (option_map (λ f. remove f name)) is ∙ ap Some (remove_with_file name bytes files)
-others-of (Worked work ending comes (NotWritten name bytes done refused rose calm put)) =
+others-of (Worked work ending comes calls (NotWritten name bytes done refused rose calm put)) =
     inr (record {
       name = name;
       output = (work, refl, names _ work (IsWritten name bytes done) comes);
       others = refused.others;
     })
-others-of (Worked work ending comes (Starved name bytes done refused rose calm put)) =
+others-of (Worked work ending comes calls (Starved name bytes done refused rose calm put)) =
     inr (record {
       name = name;
       output = (work, refl, names _ work (IsWritten name bytes done) comes);
@@ -266,13 +266,13 @@ pub last-of : {asked : Option Work} {before after : Outside} {status : ℕ}
     → Explains before after status asked → status ≢ 0 → status ≢ 4 → status ≢ 5 → OnlyReads before.shelf after.shelf
 last-of (NoWork same put) zero four five = same-only same
 last-of (NoRoom asked' same put) zero four five = same
-last-of (Worked work ending comes (Unread name left put)) zero four five = left.only
-last-of (Worked work ending comes (Long name limit same put)) zero four five = same-only same
-last-of (Worked work ending comes (Judged seen verdict same put)) zero four five = same-only same
-last-of (Worked work ending comes (Written name bytes done written put)) zero four five = not-put put zero four
-last-of (Worked work ending comes (NotWritten name bytes done refused rose calm put)) zero four five =
+last-of (Worked work ending comes calls (Unread name left put)) zero four five = left.only
+last-of (Worked work ending comes calls (Long name limit same put)) zero four five = same-only same
+last-of (Worked work ending comes calls (Judged seen verdict same put)) zero four five = same-only same
+last-of (Worked work ending comes calls (Written name bytes done written put)) zero four five = not-put put zero four
+last-of (Worked work ending comes calls (NotWritten name bytes done refused rose calm put)) zero four five =
     not-put put four four
-last-of (Worked work ending comes (Starved name bytes done refused rose calm put)) zero four five =
+last-of (Worked work ending comes calls (Starved name bytes done refused rose calm put)) zero four five =
     not-put put five four
 
 abbrev told-at : ShelfSeen → Bool
@@ -283,13 +283,13 @@ pub tells-of : {asked : Option Work} {before after : Outside} {status : ℕ}
     → Explains before after status asked → is_some after.shelf.files ≡ is_some before.shelf.files
 tells-of (NoWork same put) = ap told-at same
 tells-of (NoRoom asked' same put) = ap told-at same.0
-tells-of (Worked work ending comes (Unread name left put)) = ap told-at left.only.0
-tells-of (Worked work ending comes (Long name limit same put)) = ap told-at same
-tells-of (Worked work ending comes (Judged seen verdict same put)) = ap told-at same
-tells-of {before = before} (Worked work ending comes (Written name bytes done written put)) =
+tells-of (Worked work ending comes calls (Unread name left put)) = ap told-at left.only.0
+tells-of (Worked work ending comes calls (Long name limit same put)) = ap told-at same
+tells-of (Worked work ending comes calls (Judged seen verdict same put)) = ap told-at same
+tells-of {before = before} (Worked work ending comes calls (Written name bytes done written put)) =
     ap told-at written ∙ said-tells name bytes before.shelf.files
-tells-of (Worked work ending comes (NotWritten name bytes done refused rose calm put)) = refused.tells
-tells-of (Worked work ending comes (Starved name bytes done refused rose calm put)) = refused.tells
+tells-of (Worked work ending comes calls (NotWritten name bytes done refused rose calm put)) = refused.tells
+tells-of (Worked work ending comes calls (Starved name bytes done refused rose calm put)) = refused.tells
 
 -- ---- if the contents of files are known
 
@@ -349,7 +349,7 @@ answers-of (NoWork same put) files is four five =
       left = ap files-of same ∙ is;
     })
 answers-of (NoRoom asked' same put) files is four five = not-put put five four
-answers-of {before = before} {after = after} (Worked work ending comes (Unread name left put)) files is four five =
+answers-of {before = before} {after = after} (Worked work ending comes calls (Unread name left put)) files is four five =
     let done = whole put four in
     let named = names _ work (IsUnread name) comes in
     elim (told-of files before.shelf.files before.shelf.read_faults after.shelf.read_faults work
@@ -376,18 +376,18 @@ answers-of {before = before} {after = after} (Worked work ending comes (Unread n
   where
     same-name : (name other : List ℕ) → IsUnread name ≡ IsUnread other → other ≡ name
     same-name name other same = let f : ◌≡◌ {A = Option (List ℕ)} (Some name) (Some other) = ap name-of same in cc
-answers-of {before = before} {after = after} (Worked work ending comes (Long name limit same put)) files is four five =
+answers-of {before = before} {after = after} (Worked work ending comes calls (Long name limit same put)) files is four five =
     inl (is-answered files before after _ work (IsTooLong name limit) refl is comes (ap files-of same ∙ is) put four)
 answers-of {before = before} {after = after}
-    (Worked work ending comes (Judged seen verdict same put)) files is four five =
+    (Worked work ending comes calls (Judged seen verdict same put)) files is four five =
     inl (is-answered files before after _ work (IsVerdict seen verdict) refl is comes (ap files-of same ∙ is) put four)
 answers-of {before = before} {after = after}
-    (Worked work ending comes (Written name bytes done written put)) files is four five =
+    (Worked work ending comes calls (Written name bytes done written put)) files is four five =
     inl (is-answered files before after _ work (IsWritten name bytes done) refl is comes
     (ap files-of written ∙ ap (option_map (with_file name bytes)) is) put four)
-answers-of (Worked work ending comes (NotWritten name bytes done refused rose calm put)) files is four five =
+answers-of (Worked work ending comes calls (NotWritten name bytes done refused rose calm put)) files is four five =
     not-put put four four
-answers-of (Worked work ending comes (Starved name bytes done refused rose calm put)) files is four five =
+answers-of (Worked work ending comes calls (Starved name bytes done refused rose calm put)) files is four five =
     not-put put five four
 
 -- about the files at status 4
@@ -398,7 +398,7 @@ stands-of (NoWork same put) files is four calm =
     OfAnswer usage files NoAnswer (ap files-of same ∙ is) (cut put four (λ e. omega (arith, e))).less
 stands-of (NoRoom asked' same put) files is four calm =
     NoMemoryCut (cut put four (λ e. omega (arith, e))).less (inl same)
-stands-of {before = before} {after = after} (Worked work ending comes (Unread name left put)) files is four calm =
+stands-of {before = before} {after = after} (Worked work ending comes calls (Unread name left put)) files is four calm =
     let less = (cut put four (λ e. omega (arith, e))).less in
     let named = names _ work (IsUnread name) comes in
     elim (told-of files before.shelf.files before.shelf.read_faults after.shelf.read_faults work
@@ -406,21 +406,21 @@ stands-of {before = before} {after = after} (Worked work ending comes (Unread na
       | Same so ↦ OfAnswer (unread name) files (AnswersSo work (IsUnread name) so) (ap files-of left.only.0 ∙ is) less
       | Unreadable other bytes same there rose ↦ UnreadCut name (work, refl, named.0) less rose left
     ]
-stands-of {before = before} {after = after} (Worked work ending comes (Long name limit same put)) files is four calm =
+stands-of {before = before} {after = after} (Worked work ending comes calls (Long name limit same put)) files is four calm =
     OfAnswer _ files (answers-so files before after work (IsTooLong name limit) refl is comes) (ap files-of same ∙ is)
     (cut put four (λ e. omega (arith, e))).less
 stands-of {before = before} {after = after}
-    (Worked work ending comes (Judged seen verdict same put)) files is four calm =
+    (Worked work ending comes calls (Judged seen verdict same put)) files is four calm =
     OfAnswer _ files (answers-so files before after work (IsVerdict seen verdict) refl is comes) (ap files-of same ∙ is)
     (cut put four (verdict-other verdict 4 (omega arith) (omega arith))).less
 stands-of {before = before} {after = after}
-    (Worked work ending comes (Written name bytes done written put)) files is four calm =
+    (Worked work ending comes calls (Written name bytes done written put)) files is four calm =
     OfAnswer _ (with_file name bytes files)
     (answers-so files before after work (IsWritten name bytes done) refl is comes)
     (ap files-of written ∙ ap (option_map (with_file name bytes)) is) (cut put four (λ e. omega (arith, e))).less
-stands-of (Worked work ending comes (NotWritten name bytes done refused rose calm' put)) files is four calm =
+stands-of (Worked work ending comes calls (NotWritten name bytes done refused rose calm' put)) files is four calm =
     absurd (calm rose)
-stands-of (Worked work ending comes (Starved name bytes done refused rose calm' put)) files is four calm =
+stands-of (Worked work ending comes calls (Starved name bytes done refused rose calm' put)) files is four calm =
     NoMemoryCut (cut put four (λ e. omega (arith, e))).less
     (inr (record {
       name = name;

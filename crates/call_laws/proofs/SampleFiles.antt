@@ -50,25 +50,25 @@ pub sampled-of : {asked : Option Work} {before after : Outside} {status : ℕ}
     → asked ≡ Some (sample_work fast n output) → IsDone status ⊎ (status ≡ 4) ⊎ (status ≡ 5)
 sampled-of (NoWork same put) fast n output is = none-asked (sample_work fast n output) is
 sampled-of (NoRoom asked' same put) fast n output is = put-other (inr refl) put
-sampled-of {before = before} {after = after} (Worked work ending comes (Unread name only put)) fast n output is =
+sampled-of {before = before} {after = after} (Worked work ending comes calls (Unread name only put)) fast n output is =
     let G = Gives before.shelf.files before.shelf.read_faults after.shelf.read_faults in
     let done =
     sample-ends G fast n output (IsUnread name) (subst (λ (w : Work). MayEnd G w (IsUnread name)) (some-same is) comes) in
     absurd (elim done [ inl e ↦ omega (arith, e) | inr e ↦ omega (arith, e) ])
-sampled-of {before = before} {after = after} (Worked work ending comes (Long name limit same put)) fast n output is =
+sampled-of {before = before} {after = after} (Worked work ending comes calls (Long name limit same put)) fast n output is =
     let G = Gives before.shelf.files before.shelf.read_faults after.shelf.read_faults in
     let done =
     sample-ends G fast n output (IsTooLong name limit)
     (subst (λ (w : Work). MayEnd G w (IsTooLong name limit)) (some-same is) comes) in
     absurd (elim done [ inl e ↦ omega (arith, e) | inr e ↦ omega (arith, e) ])
-sampled-of {before = before} {after = after} (Worked work ending comes (Judged seen verdict same put)) fast n output is =
+sampled-of {before = before} {after = after} (Worked work ending comes calls (Judged seen verdict same put)) fast n output is =
     let G = Gives before.shelf.files before.shelf.read_faults after.shelf.read_faults in
     put-done (sample-ends G fast n output (IsVerdict seen verdict)
     (subst (λ (w : Work). MayEnd G w (IsVerdict seen verdict)) (some-same is) comes)) put
-sampled-of (Worked work ending comes (Written name bytes done written put)) fast n output is = put-done (inl refl) put
-sampled-of (Worked work ending comes (NotWritten name bytes done refused rose calm put)) fast n output is =
+sampled-of (Worked work ending comes calls (Written name bytes done written put)) fast n output is = put-done (inl refl) put
+sampled-of (Worked work ending comes calls (NotWritten name bytes done refused rose calm put)) fast n output is =
     put-other (inl refl) put
-sampled-of (Worked work ending comes (Starved name bytes done refused rose calm put)) fast n output is =
+sampled-of (Worked work ending comes calls (Starved name bytes done refused rose calm put)) fast n output is =
     put-other (inr refl) put
 
 -- ---- what a sample leaves that is done

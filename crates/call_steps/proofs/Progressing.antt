@@ -4,10 +4,9 @@ use Rattle.std.specs.Option.{option_map}
 use Rattle.std.specs.FinMap.{get}
 use Rattle.std.proofs.lemmas.List.{length-take, take_all}
 use Rattle.gr_base.specs.Prelude.{Rose}
-use Rattle.gr_outside.specs.Prelude.{Files, ShelfSeen, front_of}
+use Rattle.gr_outside.specs.Prelude.{Files, ShelfSeen, SinkSeen, front_of, logged, read_of}
 use Rattle.call_replies.specs.Prelude.{Said, no_memory, unread, too_long}
-use Rattle.call_replies.specs.declared.replies.Verdict.{Verdict}
-use Rattle.call_steps.specs.Prelude.{Question, Answer, IsRight, nothing_seen, Work, Ends, Reads, Asks, Ending, IsUnread, IsTooLong, IsVerdict, IsWritten, MayEnd, Ended, Missing, TooLong, Found, Answered, said_at, Outside, Gives, PutsSaid, OnlyReads, LeavesShelf, LeavesUnread, LeftBy, Unread, Long, Judged, Explains, NoRoom, Worked, HasLeft, Stops, NoRoomLeft, StopsAt, EndsWorkWith}
+use Rattle.call_steps.specs.Prelude.{Question, Answer, IsRight, Work, Reads, Asks, Ending, IsUnread, IsTooLong, IsVerdict, IsWritten, Missing, TooLong, Found, Answered, said_at, Stage, outside_at, ReadFails, ReadStarves, ReadsMore, Gives, PutsSaid, OnlyReads, LeavesShelf, LeavesUnread, LeftBy, Unread, Long, Judged, Explains, NoRoom, Worked, HasLeft, Stops, NoRoomLeft, StopsAt}
 
 abbrev pub reads-of : ShelfSeen → ℕ
 reads-of s = s.read_faults
@@ -62,12 +61,14 @@ gives-long None before now name n bytes read long = (bytes, tt, long)
 gives-long (Some all) before now name n bytes read long = front-long (get all name) n bytes read long
 
 -- a longer file stops
-pub read-long : (before after : ShelfSeen) (name : List ℕ) (n : ℕ) (bytes : List ℕ)
-    → IfSome before.files (λ all. front_of all name (n + 1) ≡ Some bytes) → n < length bytes → after ≡ before
+pub read-long : (before after : Stage) (name : List ℕ) (n : ℕ) (bytes : List ℕ)
+    → IfSome before.seen.files (λ all. front_of all name (n + 1) ≡ Some bytes) → n < length bytes
+    → after.seen ≡ before.seen → after.log ≡ logged (read_of name (Some bytes)) before.log
     → (next : List ℕ → Work) → Stops before after (Reads name n next) (too_long name n)
-read-long before after name n bytes read long same next =
-    let found = gives-long before.files before.read_faults after.read_faults name n bytes read long in
-    StopsAt (IsTooLong name n) (TooLong name n next found.0 found.1 found.2) same refl
+read-long before after name n bytes read long same noted next =
+    let found = gives-long before.seen.files before.seen.read_faults after.seen.read_faults name n bytes read long in
+    StopsAt (IsTooLong name n) (TooLong name n next found.0 found.1 found.2)
+    (ReadsMore name n next bytes before.log after.log noted long) same refl
 
 gives-none : (files : Option Files) (before now : ℕ) (name : List ℕ)
     → MatchOption files (Rose before now) (λ all. get all name ≡ None) → Gives files before now name None
@@ -80,23 +81,31 @@ gives-failed None before now name rose = rose
 gives-failed (Some all) before now name rose = inr rose
 
 -- so does one that is missing
-pub read-missing : (before after : ShelfSeen) (name : List ℕ) (n : ℕ)
-    → MatchOption before.files (Rose before.read_faults after.read_faults) (λ all. get all name ≡ None)
-    → LeavesUnread name before after → (next : List ℕ → Work) → Stops before after (Reads name n next) (unread name)
-read-missing before after name n missing left next =
+pub read-missing : (before after : Stage) (name : List ℕ) (n : ℕ)
+    → MatchOption before.seen.files (Rose before.seen.read_faults after.seen.read_faults) (λ all. get all name ≡ None)
+    → LeavesUnread name before.seen after.seen → after.log ≡ logged (read_of name None) before.log
+    → (next : List ℕ → Work) → Stops before after (Reads name n next) (unread name)
+read-missing before after name n missing left noted next =
     StopsAt (IsUnread name)
-    (Missing name n next (gives-none before.files before.read_faults after.read_faults name missing)) left refl
+    (Missing name n next (gives-none before.seen.files before.seen.read_faults after.seen.read_faults name missing))
+    (ReadFails name n next before.log after.log noted) left refl
 
 -- and one whose read fails
-pub read-failed : (before after : ShelfSeen) (name : List ℕ) (n : ℕ)
-    → Rose before.read_faults after.read_faults → LeavesUnread name before after
+pub read-failed : (before after : Stage) (name : List ℕ) (n : ℕ)
+    → Rose before.seen.read_faults after.seen.read_faults → LeavesUnread name before.seen after.seen
+    → after.log ≡ logged (read_of name None) before.log
     → (next : List ℕ → Work) → Stops before after (Reads name n next) (unread name)
-read-failed before after name n rose left next =
+read-failed before after name n rose left noted next =
     StopsAt (IsUnread name)
-    (Missing name n next (gives-failed before.files before.read_faults after.read_faults name rose)) left refl
+    (Missing name n next (gives-failed before.seen.files before.seen.read_faults after.seen.read_faults name rose))
+    (ReadFails name n next before.log after.log noted) left refl
 
-pub read-starved : (before after : ShelfSeen) (work : Work) → after ≡ before → Stops before after work no_memory
-read-starved before after work same = NoRoomLeft (same-only same) refl
+-- and one that memory is missing for
+pub read-starved : (before after : Stage) (name : List ℕ) (n : ℕ) → after.seen ≡ before.seen
+    → after.log ≡ logged (read_of name None) before.log
+    → (next : List ℕ → Work) → Stops before after (Reads name n next) no_memory
+read-starved before after name n same noted next =
+    NoRoomLeft (same-only same) refl (ReadStarves name n next before.log after.log noted)
 
 -- ---- a question
 
@@ -107,68 +116,38 @@ pub leads-on : (before : ShelfSeen) (work : Work) (question : Question) (next : 
 leads-on before work question next answer leads right now ending comes =
     leads now ending (Answered question next answer ending right comes)
 
--- a question that is refused stops
-pub refused-stops : (before after : ShelfSeen) (work : Work) (question : Question) (next : Answer question → Work)
-    (said : Said) → HasLeft before work (Asks question next) → after ≡ before
-    → EndsWorkWith question next said → Stops before after work said
-refused-stops before after work question next said leads same refuses = elim refuses [
-  | inl no_room ↦ NoRoomLeft (same-only same) no_room
-  | inr why ↦
-      let ended =
-      subst (λ w. MayEnd (Gives before.files before.read_faults after.read_faults) w (IsVerdict nothing_seen why.1))
-      (sym why.3) (Ended nothing_seen why.1) in
-      StopsAt (IsVerdict nothing_seen why.1) (leads after.read_faults (IsVerdict nothing_seen why.1)
-      (Answered question next why.0 (IsVerdict nothing_seen why.1) why.2 ended)) same why.4
-]
-
--- what was found still holds after reads that changed nothing
-pub stops-later : (before between after : ShelfSeen) (work rest : Work) (said : Said)
-    → between ≡ before → HasLeft before work rest → Stops between after rest said → Stops before after work said
-stops-later before between after work rest said same leads stops = go (subst (λ b. Stops b after rest said) same stops)
-  where
-    go : Stops before after rest said → Stops before after work said
-    go (NoRoomLeft only is) = NoRoomLeft only is
-    go (StopsAt ending comes left is) = StopsAt ending (leads after.read_faults ending comes) left is
-
 -- two steps in sequence are a step
 pub leads-later : (before between : ShelfSeen) (work rest last : Work)
     → between ≡ before → HasLeft before work rest → HasLeft between rest last → HasLeft before work last
 leads-later before between work rest last same leads on now ending comes =
     leads now ending (subst (λ (b : ShelfSeen). HasLeft b rest last) same on now ending comes)
 
--- work that ends without a file
-pub ends-at : (before after : ShelfSeen) (work : Work) (verdict : Verdict)
-    → HasLeft before work (Ends nothing_seen verdict)
-    → after ≡ before → Stops before after work (said_at (IsVerdict nothing_seen verdict))
-ends-at before after work verdict leads same =
-    StopsAt (IsVerdict nothing_seen verdict)
-    (leads after.read_faults (IsVerdict nothing_seen verdict) (Ended nothing_seen verdict)) same refl
-
 -- ---- the printed text
 
 -- the text that is printed for a work that stops explains the call
-pub stopped : (before after : Outside) (status : ℕ) (work : Work) (said : Said)
-    → Stops before.shelf after.shelf work said
-    → PutsSaid before.sink after.sink said status ⊎ PutsSaid before.sink after.sink no_memory status
-    → Explains before after status (Some work)
-stopped before after status work said (NoRoomLeft only is) put = elim put [
-  | inl done ↦ NoRoom (Some work) only (subst (λ s. PutsSaid before.sink after.sink s status) is done)
+pub stopped : (before after : Stage) (sink now : SinkSeen) (status : ℕ) (work : Work) (said : Said)
+    → Stops before after work said → PutsSaid sink now said status ⊎ PutsSaid sink now no_memory status
+    → Explains (outside_at before sink) (outside_at after now) status (Some work)
+stopped before after sink now status work said (NoRoomLeft only is calls) put = elim put [
+  | inl done ↦ NoRoom (Some work) only (subst (λ s. PutsSaid sink now s status) is done)
   | inr done ↦ NoRoom (Some work) only done
 ]
-stopped before after status work said (StopsAt ending comes left is) put = elim put [
+stopped before after sink now status work said (StopsAt ending comes calls left is) put = elim put [
   | inl done ↦
-      Worked work ending comes (left-so ending left (subst (λ s. PutsSaid before.sink after.sink s status) is done))
+      Worked work ending comes (λ four five. calls)
+      (left-so ending left (subst (λ s. PutsSaid sink now s status) is done))
   | inr done ↦ NoRoom (Some work) (only ending left) done
 ]
   where
-    left-so : (ending : Ending) → LeavesShelf ending before.shelf after.shelf
-        → PutsSaid before.sink after.sink (said_at ending) status → LeftBy before after status ending
+    left-so : (ending : Ending) → LeavesShelf ending before.seen after.seen
+        → PutsSaid sink now (said_at ending) status
+        → LeftBy (outside_at before sink) (outside_at after now) status ending
     left-so (IsUnread name) left done = Unread name left done
     left-so (IsTooLong name limit) left done = Long name limit left done
     left-so (IsVerdict seen verdict) left done = Judged seen verdict left done
     left-so (IsWritten name bytes done) left put = absurd left
 
-    only : (ending : Ending) → LeavesShelf ending before.shelf after.shelf → OnlyReads before.shelf after.shelf
+    only : (ending : Ending) → LeavesShelf ending before.seen after.seen → OnlyReads before.seen after.seen
     only (IsUnread name) left = left.only
     only (IsTooLong name limit) left = same-only left
     only (IsVerdict seen verdict) left = same-only left

@@ -1,24 +1,38 @@
 -- The outcome of a call of the program, whether or not the bytes of the shelf's files and of the sink are known.
-use Rattle.std.specs.Prelude.{◌≡◌, ◌⊎◌, ℕ, ◌≤◌, List, Option, Some, None, is_some, IfSome}
+use Rattle.std.specs.Prelude.{◌≡◌, ◌≢◌, ◌⊎◌, ℕ, ◌≤◌, List, Option, Some, None, is_some, IfSome}
 use Rattle.std.specs.Option.{option_map}
 use Rattle.std.specs.FinMap.{get}
 use Rattle.gr_base.specs.Counts.{Rose}
 use Rattle.gr_base.specs.Added.{Adds, AddsLess}
-use Rattle.gr_outside.specs.Shelf.{Files, ShelfSeen, SameBut, with_file}
+use Rattle.gr_outside.specs.Shelf.{Files, Log, ShelfSeen, SameBut, untold, with_file}
 use Rattle.gr_outside.specs.Sink.{SinkSeen}
 use Rattle.call_replies.specs.declared.replies.Verdict.{Verdict}
 use Rattle.call_replies.specs.declared.replies.Done.{Done}
 use Rattle.call_replies.specs.Texts.{Said, usage, unread, unwritten, no_memory, too_long, wrote}
+use Rattle.call_steps.specs.CallsFollow.{Follows}
 use Rattle.call_steps.specs.Showing.{Seen}
 use Rattle.call_steps.specs.Work.{Work, Ending, IsUnread, IsTooLong, IsVerdict, IsWritten, MayEnd, said_at}
 
--- the shelf and the sink, before or after a call
+-- a shelf at some time: what is seen of it, and the log of its calls
+pub record Stage : Type 0 where
+  pub seen : ShelfSeen
+  pub log : Log
+
+abbrev pub stage : ShelfSeen → Log → Stage
+stage seen log = record { seen = seen; log = log }
+
+-- the shelf, its log and the sink, before or after a call
 pub record Outside : Type 0 where
   pub shelf : ShelfSeen
+  pub log : Log
   pub sink : SinkSeen
 
+abbrev pub outside_at : Stage → SinkSeen → Outside
+outside_at at sink = record { shelf = at.seen; log = at.log; sink = sink }
+
+-- the same of a shelf whose log isn't visible
 abbrev pub outside : ShelfSeen → SinkSeen → Outside
-outside shelf sink = record { shelf = shelf; sink = sink }
+outside shelf sink = outside_at (stage shelf untold) sink
 
 -- The result of reading a file: its known contents, or some bytes if the contents of files aren't known. There are none
 -- if the known files lack it, or if the shelf's count of failed reads rose from before to now.
@@ -74,13 +88,15 @@ pub data LeftBy (before after : Outside) (status : ℕ) : Ending → Type 0 wher
       → PutsSaid before.sink after.sink no_memory status → LeftBy before after status (IsWritten name bytes done)
 
 -- Why a call ends as it ends: the words ask for no work; or memory ran out, which may happen anywhere, before a file
--- was written; or the work that the words ask for ended so.
+-- was written; or the work that the words ask for ended so. Then its calls are in the log, with the bytes that it read
+-- and wrote, unless the status says that a write or a print failed or that memory ran out.
 pub data Explains (before after : Outside) (status : ℕ) : Option Work → Type 0 where
   NoWork : after.shelf ≡ before.shelf → PutsSaid before.sink after.sink usage status → Explains before after status None
   NoRoom : (asked : Option Work) → OnlyReads before.shelf after.shelf → PutsSaid before.sink after.sink no_memory status
       → Explains before after status asked
   Worked : (work : Work) (ending : Ending)
       → MayEnd (Gives before.shelf.files before.shelf.read_faults after.shelf.read_faults) work ending
+      → (status ≢ 4 → status ≢ 5 → Follows work (Some ending) before.log after.log)
       → LeftBy before after status ending → Explains before after status (Some work)
 
 -- what of the shelf an ending leaves that writes no file

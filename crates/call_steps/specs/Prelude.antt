@@ -1,8 +1,8 @@
 -- The definitions that clauses and proofs above cite, passed on from one place. Declares nothing.
 pub use Rattle.call_steps.specs.Beginning.{BankBegins, HasBegun, RecursiveBegins}
 unfoldable pub use Rattle.call_steps.specs.Beginning.{BeginFrom}
-pub use Rattle.call_steps.specs.CallsFollow.{AsksOn, CallsOf, Follows, Makes, NoCalls, ReadFails, ReadsOn, StopsHere, WritesLast}
-unfoldable pub use Rattle.call_steps.specs.CallsFollow.{TriesRead, TriesWrite}
+pub use Rattle.call_steps.specs.CallsFollow.{AsksOn, CallsOf, Follows, Judges, Makes, NoCalls, ReadFails, ReadsMore, ReadsOn, ReadStarves, StopsHere, WriteFails, WritesLast}
+unfoldable pub use Rattle.call_steps.specs.CallsFollow.{HasCalls, TriesWrite}
 unfoldable pub use Rattle.call_steps.specs.Compile.{compile_on, compile_work, compiles_to, on_compiled, target_for}
 pub use Rattle.call_steps.specs.Compiled.{IsCompiledTo}
 unfoldable pub use Rattle.call_steps.specs.Compiled.{HasLayoutFor, HasRoom, IsCompiled, LacksRoom, held_for, most_code, plan_for, room_fault, source_for}
@@ -18,8 +18,8 @@ pub use Rattle.call_steps.specs.Levels.{AllStand, MayEndOn, PutsBank, PutsLast, 
 unfoldable pub use Rattle.call_steps.specs.Levels.{AreBehind, FirstBanks, MayRun, OfOram, StandAfter, StandNow}
 pub use Rattle.call_steps.specs.Objects.{SpellsObject}
 unfoldable pub use Rattle.call_steps.specs.Objects.{object_limit}
-pub use Rattle.call_steps.specs.Outside.{Explains, Judged, LeavesUnread, LeftBy, Long, NoRoom, NoWork, NotWritten, Outside, Starved, Unread, Worked, Written}
-unfoldable pub use Rattle.call_steps.specs.Outside.{Gives, LeavesShelf, OnlyReads, PutsSaid, outside}
+pub use Rattle.call_steps.specs.Outside.{Explains, Judged, LeavesUnread, LeftBy, Long, NoRoom, NoWork, NotWritten, Outside, RefusedWrite, Stage, Starved, Unread, Worked, Written}
+unfoldable pub use Rattle.call_steps.specs.Outside.{Gives, LeavesShelf, OnlyReads, PutsSaid, outside, outside_at, stage}
 pub use Rattle.call_steps.specs.Paths.{IsShown, OfBank}
 unfoldable pub use Rattle.call_steps.specs.Paths.{words_drawn}
 pub use Rattle.call_steps.specs.PathsShown.{AnAccess, NoAccess, NoMore, ShowsPaths}
@@ -28,8 +28,8 @@ pub use Rattle.call_steps.specs.Progress.{LeavesToSay, NoRoomLeft, NoRoomYet, No
 unfoldable pub use Rattle.call_steps.specs.Progress.{EndsWorkWith, HasLeft, SaysInputs, SaysNotes, SaysObject, SaysSource, SaysText}
 pub use Rattle.call_steps.specs.Questions.{Question, WhatIsInferred, WhatIsJoined, WhatIsLeft, WhatIsMade, WhatIsShown, WhenItHalts, WhetherAccepted, WhichAssembly, WhichCompiled, WhichInputs, WhichObject, WhichSource}
 unfoldable pub use Rattle.call_steps.specs.Questions.{Answer, AreInputs, IsRight, Shows}
-pub use Rattle.call_steps.specs.Reached.{HasReached, HasStopped, Stage}
-unfoldable pub use Rattle.call_steps.specs.Reached.{ExplainsRest, Finds, FindsNone, stage}
+pub use Rattle.call_steps.specs.Reached.{HasReached, HasStopped}
+unfoldable pub use Rattle.call_steps.specs.Reached.{ExplainsRest, Finds, FindsNone}
 pub use Rattle.call_steps.specs.RecursivePaths.{IsShownInTrees, OfRecursiveBank}
 unfoldable pub use Rattle.call_steps.specs.Runs.{HaltOf, TextsAgree, TracesAgree, run_outputs}
 unfoldable pub use Rattle.call_steps.specs.Seeds.{seed_bytes, seeded_words, stream_from}

@@ -13,7 +13,8 @@ use Rattle.call_replies.specs.Texts.{Said, usage, no_memory, comes_to}
 use Rattle.call_steps.specs.Questions.{Question, Answer, IsRight, Shows}
 use Rattle.call_steps.specs.Showing.{nothing_seen}
 use Rattle.call_steps.specs.Work.{Work, Ends, Ending, MayEnd, said_at}
-use Rattle.call_steps.specs.Outside.{Gives, OnlyReads, LeavesShelf}
+use Rattle.call_steps.specs.CallsFollow.{Follows}
+use Rattle.call_steps.specs.Outside.{Gives, OnlyReads, LeavesShelf, Stage}
 use Rattle.object_file.specs.declared.errors.DecodeError.TheVariants as object
 use Rattle.lt_assembler.specs.declared.errors.AsmError.TheVariants as text
 use Rattle.note_infer.specs.declared.faults.InferError.TheVariants as notes
@@ -23,18 +24,20 @@ abbrev pub HasLeft : ShelfSeen → Work → Work → Type 0
 HasLeft before work rest = (now : ℕ) (ending : Ending) → MayEnd (Gives before.files before.read_faults now) rest ending
     → MayEnd (Gives before.files before.read_faults now) work ending
 
--- the work ends so without a write, or memory ran out
-pub data Stops (before after : ShelfSeen) (work : Work) (said : Said) : Type 0 where
-  NoRoomLeft : OnlyReads before after → said ≡ no_memory → Stops before after work said
+-- the work ends so without a write, or memory ran out; the calls follow the work
+pub data Stops (before after : Stage) (work : Work) (said : Said) : Type 0 where
+  NoRoomLeft : OnlyReads before.seen after.seen → said ≡ no_memory → Follows work None before.log after.log
+      → Stops before after work said
   StopsAt : (ending : Ending)
-      → MayEnd (Gives before.files before.read_faults after.read_faults) work ending → LeavesShelf ending before after
+      → MayEnd (Gives before.seen.files before.seen.read_faults after.seen.read_faults) work ending
+      → Follows work (Some ending) before.log after.log → LeavesShelf ending before.seen after.seen
       → said ≡ said_at ending → Stops before after work said
 
 -- A call that printed nothing leaves this to be printed: the words request no work, or memory ran out before a write,
 -- or the work ends so without one.
-pub data LeavesToSay (before after : ShelfSeen) (asked : Option Work) (said : Said) : Type 0 where
-  NothingAsked : asked ≡ None → after ≡ before → said ≡ usage → LeavesToSay before after asked said
-  NoRoomYet : OnlyReads before after → said ≡ no_memory → LeavesToSay before after asked said
+pub data LeavesToSay (before after : Stage) (asked : Option Work) (said : Said) : Type 0 where
+  NothingAsked : asked ≡ None → after.seen ≡ before.seen → said ≡ usage → LeavesToSay before after asked said
+  NoRoomYet : OnlyReads before.seen after.seen → said ≡ no_memory → LeavesToSay before after asked said
   WorkStops : (work : Work) → asked ≡ Some work → Stops before after work said → LeavesToSay before after asked said
 
 -- the right answer to a question ends the work with a verdict, or memory ran out

@@ -1,34 +1,27 @@
 -- How far a step of the code has come: with the work of a verb, and with the calls of the shelf. (Only contracts of
 -- private functions and proofs say so.)
-use Rattle.std.specs.Prelude.{◌≡◌, ℕ, ℤ, List, Some}
+use Rattle.std.specs.Prelude.{◌≡◌, ℕ, ℤ, List, Option, Some}
 use Rattle.lt_isa.specs.Object.{Parts}
-use Rattle.gr_outside.specs.Shelf.{Log, ShelfSeen}
+use Rattle.gr_outside.specs.Shelf.{Log}
 use Rattle.gr_outside.specs.Sink.{SinkSeen}
 use Rattle.call_replies.specs.Texts.{Said}
-use Rattle.call_steps.specs.CallsFollow.{Follows}
-use Rattle.call_steps.specs.Outside.{Explains, outside}
+use Rattle.call_steps.specs.CallsFollow.{Follows, HasCalls}
+use Rattle.call_steps.specs.Outside.{Explains, Stage, outside_at}
 use Rattle.call_steps.specs.Progress.{HasLeft, Stops}
 use Rattle.call_steps.specs.Steps.{with_accepted, with_inputs}
-use Rattle.call_steps.specs.Work.{Work}
-
--- a shelf at some time: what is seen of it, and the log of its calls
-pub record Stage : Type 0 where
-  pub seen : ShelfSeen
-  pub log : Log
-
-abbrev pub stage : ShelfSeen → Log → Stage
-stage seen log = record { seen = seen; log = log }
+use Rattle.call_steps.specs.Work.{Ending, Work}
 
 -- the shelf is unchanged, this is the rest of the work, and the calls so far and those of the rest follow the work
 pub record HasReached (before after : Stage) (work rest : Work) : Type 0 where
   pub leads : HasLeft before.seen work rest
   pub calm : after.seen ≡ before.seen
-  pub calls : (last : Log) → Follows rest after.log last → Follows work before.log last
+  pub calls : (ending : Option Ending) (last : Log) → Follows rest ending after.log last
+      → Follows work ending before.log last
 
 -- the work ends so without a write, or memory ran out; the calls follow the work
 pub record HasStopped (before after : Stage) (work : Work) (said : Said) : Type 0 where
-  pub stops : Stops before.seen after.seen work said
-  pub calls : Follows work before.log after.log
+  pub stops : Stops before after work said
+  pub calls : HasCalls work before.log after.log
 
 -- what was found: the rest of any work on it is reached
 abbrev pub Finds : {X : Type 0} → Stage → Stage → ((X → Work) → Work) → X → Type 0
@@ -44,5 +37,5 @@ with_given object input next = with_accepted object (λ o. with_inputs o input (
 
 -- the printed text explains each call whose work has this rest
 abbrev pub ExplainsRest : SinkSeen → SinkSeen → ℕ → Work → Type 0
-ExplainsRest before after status rest = (shelf now : ShelfSeen) (work : Work) → HasLeft shelf work rest → now ≡ shelf
-    → Explains (outside shelf before) (outside now after) status (Some work)
+ExplainsRest before after status rest = (shelf now : Stage) (work : Work) → HasReached shelf now work rest
+    → Explains (outside_at shelf before) (outside_at now after) status (Some work)

@@ -1,7 +1,8 @@
 ghost use Rattle.std.specs.Prelude.{IfErr, IfOk, List, ℤ};
 ghost use Rattle.lt_isa.specs.Prelude.{Parts, IsInRange, FitsObject};
 ghost use Rattle.call_replies.specs.Prelude.{said};
-ghost use Rattle.call_steps.specs.Reached.{HasReached, HasStopped, stage, with_given};
+ghost use Rattle.call_steps.specs.Outside.{stage};
+ghost use Rattle.call_steps.specs.Reached.{HasReached, HasStopped, with_given};
 ghost use Rattle.call_steps.specs.Work.{Work};
 
 use crate::reading::{find_accepted, find_inputs};

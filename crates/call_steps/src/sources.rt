@@ -2,7 +2,8 @@ ghost use Rattle.std.specs.Prelude.{◌≤◌, IfErr, IfOk, IfSome, false, lengt
 ghost use Rattle.src_tree.specs.Prelude.{Source, source_of};
 ghost use Rattle.call_steps.specs.Progress.{EndsWorkWith, SaysSource};
 ghost use Rattle.call_steps.specs.Questions.{WhichSource};
-ghost use Rattle.call_steps.specs.Reached.{Finds, FindsNone, stage};
+ghost use Rattle.call_steps.specs.Outside.{stage};
+ghost use Rattle.call_steps.specs.Reached.{Finds, FindsNone};
 ghost use Rattle.call_steps.specs.Sources.{IsFirstSourceFault, Spells, SpellsTyped, source_limit};
 ghost use Rattle.call_replies.specs.declared.replies.Verdict.TheVariants.{BadSource};
 ghost use Rattle.call_steps.specs.Steps.{or_ends, with_source};

@@ -4,10 +4,10 @@ ghost use Rattle.std.specs.Prelude.{◌≡◌, IfErr, IfOk, IfSome, List, OnErr,
 ghost use Rattle.std.specs.Option.{option_map};
 ghost use Rattle.clap.specs.Words.{Row, found_of, rows_of};
 ghost use Rattle.call_replies.specs.Prelude.{said};
-ghost use Rattle.call_steps.specs.CallsFollow.{Follows, Makes};
-ghost use Rattle.call_steps.specs.Outside.{Explains, outside};
+ghost use Rattle.call_steps.specs.CallsFollow.{HasCalls, Makes};
+ghost use Rattle.call_steps.specs.Outside.{Explains, outside_at, stage};
 ghost use Rattle.call_steps.specs.Progress.{LeavesToSay};
-ghost use Rattle.call_steps.specs.Reached.{HasReached, HasStopped, stage};
+ghost use Rattle.call_steps.specs.Reached.{HasReached, HasStopped};
 ghost use Rattle.call_steps.specs.Work.{Work, Writes};
 
 use crate::writing::write_and_say;
@@ -47,12 +47,14 @@ pub trait Service<'a>: Request<'a> {
         out: &mut O,
     ) -> Result<u8, Reply<'a>>
         requires { Self.Fits words }
-        ensures done { IfOk result (λ status. Explains (outside (F.seen shelf.old) (O.seen out.old))
-            (outside (F.seen shelf.new) (O.seen out.new)) status (Some (Self.work words))) }
-        ensures stopped { IfErr result (λ reply. LeavesToSay (F.seen shelf.old) (F.seen shelf.new)
-            (Some (Self.work words)) (said reply)) }
+        ensures done { IfOk result (λ status. Explains
+            (outside_at (stage (F.seen shelf.old) (F.log shelf.old)) (O.seen out.old))
+            (outside_at (stage (F.seen shelf.new) (F.log shelf.new)) (O.seen out.new))
+            status (Some (Self.work words))) }
+        ensures stopped { IfErr result (λ reply. LeavesToSay (stage (F.seen shelf.old) (F.log shelf.old))
+            (stage (F.seen shelf.new) (F.log shelf.new)) (Some (Self.work words)) (said reply)) }
         ensures unput { OnErr result (O.seen out.new ≡ O.seen out.old) }
-        ensures calls { Follows (Self.work words) (F.log shelf.old) (F.log shelf.new) };
+        ensures calls { HasCalls (Self.work words) (F.log shelf.old) (F.log shelf.new) };
 }
 
 /// A file that a verb writes, and what is printed once it is written.
@@ -99,10 +101,12 @@ pub fn answer<'a, S: Service<'a>, F: Shelf, O: Sink>(
     shelf: &mut F,
     out: &mut O,
 ) -> Result<u8, Reply<'a>>
-    ensures done { IfOk result (λ status. Explains (outside (F.seen shelf.old) (O.seen out.old))
-        (outside (F.seen shelf.new) (O.seen out.new)) status (S.asks (rows_of (found_of matches.now)))) }
-    ensures stopped { IfErr result (λ reply. LeavesToSay (F.seen shelf.old) (F.seen shelf.new)
-        (S.asks (rows_of (found_of matches.now))) (said reply)) }
+    ensures done { IfOk result (λ status. Explains
+        (outside_at (stage (F.seen shelf.old) (F.log shelf.old)) (O.seen out.old))
+        (outside_at (stage (F.seen shelf.new) (F.log shelf.new)) (O.seen out.new))
+        status (S.asks (rows_of (found_of matches.now)))) }
+    ensures stopped { IfErr result (λ reply. LeavesToSay (stage (F.seen shelf.old) (F.log shelf.old))
+        (stage (F.seen shelf.new) (F.log shelf.new)) (S.asks (rows_of (found_of matches.now))) (said reply)) }
     ensures unput { OnErr result (O.seen out.new ≡ O.seen out.old) }
     ensures calls { Makes (S.asks (rows_of (found_of matches.now))) (F.log shelf.old) (F.log shelf.new) }
 {

@@ -1,6 +1,7 @@
-ghost use Rattle.std.specs.Prelude.{◌≡◌, IfErr, IfOk, OnErr};
+ghost use Rattle.std.specs.Prelude.{◌≡◌, ◌≢◌, IfErr, IfOk, OnErr, Some};
+ghost use Rattle.gr_outside.specs.Shelf.{logged, write_of};
 ghost use Rattle.call_steps.specs.CallsFollow.{TriesWrite};
-ghost use Rattle.call_steps.specs.Outside.{LeftBy, outside};
+ghost use Rattle.call_steps.specs.Outside.{LeftBy, outside_at, stage};
 ghost use Rattle.call_replies.specs.Prelude.{no_memory, said};
 ghost use Rattle.call_steps.specs.Work.{IsWritten};
 
@@ -19,8 +20,12 @@ pub fn write_and_say<'a, F: Shelf, O: Sink>(
     shelf: &mut F,
     out: &mut O,
 ) -> Result<u8, Reply<'a>>
-    ensures left { IfOk result (λ status. LeftBy (outside (F.seen shelf.old) (O.seen out.old))
-        (outside (F.seen shelf.new) (O.seen out.new)) status (IsWritten name.now bytes.now done)) }
+    ensures left { IfOk result (λ status. LeftBy
+        (outside_at (stage (F.seen shelf.old) (F.log shelf.old)) (O.seen out.old))
+        (outside_at (stage (F.seen shelf.new) (F.log shelf.new)) (O.seen out.new))
+        status (IsWritten name.now bytes.now done)) }
+    ensures noted { IfOk result (λ status. status ≢ 4 → status ≢ 5
+        → F.log shelf.new ≡ logged (write_of name.now (Some bytes.now)) (F.log shelf.old)) }
     ensures starved { IfErr result (λ reply. said reply ≡ no_memory) }
     ensures unwritten { OnErr result (F.seen shelf.new ≡ F.seen shelf.old) }
     ensures unput { OnErr result (O.seen out.new ≡ O.seen out.old) }

@@ -20,7 +20,7 @@ use Rattle.command_words.specs.declared.verbs.Verb.TheVariants.{Assemble, Bus, C
 use Rattle.call_steps.specs.declared.targets.Target.{Target}
 use Rattle.call_laws.specs.Prelude.{assemble_work, check_work, disassemble_work, evaluate_work, on_left, infer_work, on_inferred, on_sampled, sample_work, work_of, works}
 use Rattle.machine_verbs.specs.Prelude.{Read, bus_work, none_read, on_plan, one_read, shares_bus, with_cores, with_halts, on_halt, run_work, shows_on, trace_work}
-use Rattle.call_steps.specs.Prelude.{AsksOn, CallsOf, Follows, Makes, NoCalls, ReadFails, ReadsOn, StopsHere, TriesWrite, WritesLast, compile_work, on_compiled, AreFiles, CallsItsFiles, FailsToRead, InOrder, NoFurther, ReadsNext, WritesOutput, Made, Answer, Question, on_judged, or_ends, with_accepted, with_assembly, with_object, with_source, with_variables, Asks, Ends, Reads, Work, Writes}
+use Rattle.call_steps.specs.Prelude.{AsksOn, CallsOf, Follows, HasCalls, Judges, Makes, NoCalls, ReadFails, ReadsMore, ReadsOn, ReadStarves, StopsHere, TriesWrite, WriteFails, WritesLast, Ending, compile_work, on_compiled, AreFiles, CallsItsFiles, FailsToRead, InOrder, NoFurther, ReadsNext, WritesOutput, Made, Answer, Question, on_judged, or_ends, with_accepted, with_assembly, with_object, with_source, with_variables, Asks, Ends, Reads, Work, Writes}
 use Rattle.command_words.proofs.VerbWords.{words-ask}
 use Rattle.call_laws.proofs.EachVerb.{asks-nothing, each-verb}
 use Rattle.std.specs.Borrow.{Bor}
@@ -33,21 +33,31 @@ OfCalls (Writes name bytes done) before after = TriesWrite name bytes before aft
 OfCalls (Reads name limit next) before after =
     (after ≡ before) ⊎ (after ≡ logged (read_of name None) before)
     ⊎ ((bytes : List ℕ) × (between : Log) × (between ≡ logged (read_of name (Some bytes)) before)
-    × Follows (next bytes) between after)
+    × ((after ≡ between) ⊎ HasCalls (next bytes) between after))
 OfCalls (Asks question next) before after =
-    (after ≡ before) ⊎ ((answer : Answer question) × Follows (next answer) before after)
+    (after ≡ before) ⊎ ((answer : Answer question) × HasCalls (next answer) before after)
 
 no-calls : (work : Work) (log : Log) → OfCalls work log log
 no-calls (Ends seen verdict) log = refl
 no-calls other log = inl refl
 
-of-calls : (work : Work) (before after : Log) → Follows work before after → OfCalls work before after
-of-calls work before after (StopsHere work' log) = no-calls work before
-of-calls work before after (ReadFails name limit next before' after' noted) = inr (inl noted)
-of-calls work before after (ReadsOn name limit next bytes before' between after' noted rest) =
-    inr (inr (bytes, between, noted, rest))
-of-calls work before after (AsksOn question next answer before' after' rest) = inr (answer, rest)
-of-calls work before after (WritesLast name bytes done written before' after' noted) = inr (written, noted)
+of-follows : (work : Work) (ending : Option Ending) (before after : Log) → Follows work ending before after
+    → OfCalls work before after
+of-follows work ending before after (StopsHere work' log) = no-calls work before
+of-follows work ending before after (Judges seen verdict log) = refl
+of-follows work ending before after (ReadFails name limit next before' after' noted) = inr (inl noted)
+of-follows work ending before after (ReadStarves name limit next before' after' noted) = inr (inl noted)
+of-follows work ending before after (ReadsMore name limit next bytes before' after' noted long) =
+    inr (inr (bytes, after, noted, inl refl))
+of-follows work ending before after (ReadsOn name limit next bytes ending' before' between after' noted short rest) =
+    inr (inr (bytes, between, noted, inr (ending, rest)))
+of-follows work ending before after (AsksOn question next answer ending' before' after' right rest) =
+    inr (answer, (ending, rest))
+of-follows work ending before after (WritesLast name bytes done before' after' noted) = inr (true, noted)
+of-follows work ending before after (WriteFails name bytes done before' after' noted) = inr (false, noted)
+
+of-calls : (work : Work) (before after : Log) → HasCalls work before after → OfCalls work before after
+of-calls work before after calls = of-follows work calls.0 before after calls.1
 
 -- ---- each work reads its files in their order
 
@@ -58,7 +68,7 @@ files_in (pair ∷ pairs) = pair.object ∷ pair.input ∷ files_in pairs
 
 module _ (output : Option Text) where
   abbrev pub InTurn : List Text → Work → Type 0
-  InTurn files work = (before after : Log) → Follows work before after → InOrder output files before after
+  InTurn files work = (before after : Log) → HasCalls work before after → InOrder output files before after
 
   stays : (files : List Text) (before after : Log) → after ≡ before → InOrder output files before after
   stays files before after same = subst (λ (l : Log). InOrder output files before l) (sym same) (NoFurther files before)
@@ -81,7 +91,9 @@ module _ (output : Option Text) where
       go : OfCalls (Reads name limit next) before after → InOrder output (name ∷ files) before after
       go (inl same) = stays (name ∷ files) before after same
       go (inr (inl failed)) = FailsToRead name files before after failed
-      go (inr (inr on)) = ReadsNext name on.0 files before on.1 after on.2 (all on.0 on.1 after on.3)
+      go (inr (inr on)) =
+          ReadsNext name on.0 files before on.1 after on.2
+          (elim on.3 [ | inl same ↦ stays files on.1 after same | inr rest ↦ all on.0 on.1 after rest ])
 
   asks : (files : List Text) (question : Question) (next : Answer question → Work)
       → ((answer : Answer question) → InTurn files (next answer)) → InTurn files (Asks question next)
@@ -248,14 +260,14 @@ calls-files verb more names files parts output before after says are ordered = r
 }
 
 module _ (more : List Text) (texts : AreTexts more) (work : Work) (before after : Log)
-    (follows : Follows work before after) where
+    (follows : HasCalls work before after) where
   abbrev OfVerb : Text → Type 0
   OfVerb verb = work_of (verb ∷ more) ≡ Some work → CallsItsFiles (verb ∷ more) before after
 
   in-turn : (output : Option Text) (files : List Text) (other : Work) → work ≡ other → InTurn output files other
       → InOrder output files before after
   in-turn output files other same turn =
-      turn before after (subst (λ (w : Work). Follows w before after) same follows)
+      turn before after (subst (λ (w : Work). HasCalls w before after) same follows)
 
   of-check : OfVerb (codes "check")
   of-check asked =
@@ -334,7 +346,7 @@ module _ (more : List Text) (texts : AreTexts more) (work : Work) (before after 
       (λ verb unknown asked. absurd (asks-nothing verb more work unknown asked))
 
 calls-named : (words : List Text) → AreTexts words → (work : Work) → work_of words ≡ Some work → (before after : Log)
-    → Follows work before after → CallsItsFiles words before after
+    → HasCalls work before after → CallsItsFiles words before after
 calls-named [] texts work asked before after follows =
     absurd (let f : ◌≡◌ {A = Option Work} None (Some work) = sym (words-ask works).no_words ∙ asked in cc)
 calls-named (verb ∷ more) texts work asked before after follows =

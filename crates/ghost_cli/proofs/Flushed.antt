@@ -2,8 +2,8 @@
 use Rattle.std.proofs.Common.{◌≡◌, ℕ, ◌≤◌, inr, List, Option, Some, None, refl, sym, subst, ⊎_elim}
 use Rattle.gr_base.specs.Prelude.{AddsLess, Rose}
 use Rattle.gr_base.proofs.Counts.{rose_before}
-use Rattle.gr_outside.specs.Prelude.{ShelfSeen, SinkSeen}
-use Rattle.call_steps.specs.Prelude.{Outside, outside, PutsSaid, LeftBy, Unread, Long, Judged, Written, NotWritten, Starved, Explains, NoWork, NoRoom, Worked, Ending, IsVerdict, Work, said_at}
+use Rattle.gr_outside.specs.Prelude.{SinkSeen}
+use Rattle.call_steps.specs.Prelude.{Outside, Stage, outside_at, PutsSaid, LeftBy, Unread, Long, Judged, Written, NotWritten, Starved, Explains, NoWork, NoRoom, Worked, Ending, IsVerdict, Work, said_at}
 use Rattle.call_replies.specs.Prelude.{Said, usage, unread, unwritten, no_memory, too_long, wrote}
 
 -- nothing is stated about a sink that reveals no bytes
@@ -25,8 +25,8 @@ module _ {mid now : SinkSeen} (none : mid.held ≡ None) (same : now.held ≡ mi
         untold before.held now.held said.text (subst (λ held. held ≡ None) (sym same) none),
       )
 
-  cut_left : {before : Outside} {shelf : ShelfSeen} {status : ℕ} {ending : Ending}
-      → LeftBy before (outside shelf mid) status ending → LeftBy before (outside shelf now) 4 ending
+  cut_left : {before : Outside} {shelf : Stage} {status : ℕ} {ending : Ending}
+      → LeftBy before (outside_at shelf mid) status ending → LeftBy before (outside_at shelf now) 4 ending
   cut_left {before} {shelf} {status} (Unread name left put) =
       Unread name left (cut_put before.sink (unread name) status put)
   cut_left {before} {shelf} {status} (Long name limit stays put) =
@@ -41,18 +41,19 @@ module _ {mid now : SinkSeen} (none : mid.held ≡ None) (same : now.held ≡ mi
       Starved name bytes done refused starved failed (cut_put before.sink no_memory status put)
 
   -- the call is explained as before, with the status 4
-  pub cut_explains : {before : Outside} {shelf : ShelfSeen} {status : ℕ} {asked : Option Work}
-      → Explains before (outside shelf mid) status asked → Explains before (outside shelf now) 4 asked
+  pub cut_explains : {before : Outside} {shelf : Stage} {status : ℕ} {asked : Option Work}
+      → Explains before (outside_at shelf mid) status asked → Explains before (outside_at shelf now) 4 asked
   cut_explains {before} {shelf} {status} (NoWork stays put) = NoWork stays (cut_put before.sink usage status put)
   cut_explains {before} {shelf} {status} (NoRoom asked only put) =
       NoRoom asked only (cut_put before.sink no_memory status put)
-  cut_explains (Worked work ending ends left) = Worked work ending ends (cut_left left)
+  cut_explains (Worked work ending ends calls left) =
+      Worked work ending ends (λ other. absurd (other refl)) (cut_left left)
 
 -- a sink that handed on all is seen as before
-pub flushed_explains : {before : Outside} {shelf : ShelfSeen} {mid now : SinkSeen} {status : ℕ} {asked : Option Work}
+pub flushed_explains : {before : Outside} {shelf : Stage} {mid now : SinkSeen} {status : ℕ} {asked : Option Work}
     → now.held ≡ mid.held → now.faults ≡ mid.faults
-    → Explains before (outside shelf mid) status asked → Explains before (outside shelf now) status asked
+    → Explains before (outside_at shelf mid) status asked → Explains before (outside_at shelf now) status asked
 flushed_explains {before} {shelf} {mid} {now} {status} {asked} held faults explained =
-    subst (λ h. Explains before (outside shelf (record { held = h; faults = now.faults })) status asked) (sym held)
-    (subst (λ n. Explains before (outside shelf (record { held = mid.held; faults = n })) status asked) (sym faults)
+    subst (λ h. Explains before (outside_at shelf (record { held = h; faults = now.faults })) status asked) (sym held)
+    (subst (λ n. Explains before (outside_at shelf (record { held = mid.held; faults = n })) status asked) (sym faults)
     explained)

@@ -1,6 +1,6 @@
 ghost use Rattle.std.specs.Prelude.{◌≡◌, IfErr, IfOk, OnErr};
 ghost use Rattle.command_words.specs.Prelude.{AreTexts, texts, asked_of, asks_of};
-ghost use Rattle.call_steps.specs.Prelude.{Makes, Happened, Explains, outside, LeavesToSay};
+ghost use Rattle.call_steps.specs.Prelude.{Makes, Happened, Explains, outside_at, LeavesToSay, stage};
 ghost use Rattle.call_laws.specs.Prelude.{HasHeadline, Promises, work_of, works};
 ghost use Rattle.call_replies.specs.Prelude.{said};
 ghost use Rattle.clap.specs.Words.{found_of, rows_of};
@@ -41,9 +41,11 @@ pub fn ghostrider<F: Shelf, O: Sink>(
     out: &mut O,
 ) -> u8
     ensures promises { Promises (work_of (texts words.now))
-        (outside (F.seen shelf.old) (O.seen out.old)) (outside (F.seen shelf.new) (O.seen out.new)) result }
+        (outside_at (stage (F.seen shelf.old) (F.log shelf.old)) (O.seen out.old))
+        (outside_at (stage (F.seen shelf.new) (F.log shelf.new)) (O.seen out.new)) result }
     ensures headline { HasHeadline (texts words.now)
-        (outside (F.seen shelf.old) (O.seen out.old)) (outside (F.seen shelf.new) (O.seen out.new)) result }
+        (outside_at (stage (F.seen shelf.old) (F.log shelf.old)) (O.seen out.old))
+        (outside_at (stage (F.seen shelf.new) (F.log shelf.new)) (O.seen out.new)) result }
     ensures happened { Happened (texts words.now) (F.log shelf.old) (F.log shelf.new) (O.waiting out.new) result }
 {
     look_at(words);
@@ -65,8 +67,9 @@ fn look_at(words: &[&str])
 
 /// The call, with the cause of its status.
 fn explained<F: Shelf, O: Sink>(alloc: Global, words: &[&str], shelf: &mut F, out: &mut O) -> u8
-    ensures explained { Explains (outside (F.seen shelf.old) (O.seen out.old))
-        (outside (F.seen shelf.new) (O.seen out.new)) result (work_of (texts words.now)) }
+    ensures explained { Explains
+        (outside_at (stage (F.seen shelf.old) (F.log shelf.old)) (O.seen out.old))
+        (outside_at (stage (F.seen shelf.new) (F.log shelf.new)) (O.seen out.new)) result (work_of (texts words.now)) }
     ensures calls { Makes (work_of (texts words.now)) (F.log shelf.old) (F.log shelf.new) }
 {
     match answered(alloc, words, shelf, out) {
@@ -82,9 +85,11 @@ fn answered<'a, F: Shelf, O: Sink>(
     shelf: &mut F,
     out: &mut O,
 ) -> Result<u8, Reply<'a>>
-    ensures done { IfOk result (λ status. Explains (outside (F.seen shelf.old) (O.seen out.old))
-        (outside (F.seen shelf.new) (O.seen out.new)) status (work_of (texts words.now))) }
-    ensures stopped { IfErr result (λ reply. LeavesToSay (F.seen shelf.old) (F.seen shelf.new)
+    ensures done { IfOk result (λ status. Explains
+        (outside_at (stage (F.seen shelf.old) (F.log shelf.old)) (O.seen out.old))
+        (outside_at (stage (F.seen shelf.new) (F.log shelf.new)) (O.seen out.new)) status (work_of (texts words.now))) }
+    ensures stopped { IfErr result (λ reply. LeavesToSay (stage (F.seen shelf.old) (F.log shelf.old))
+        (stage (F.seen shelf.new) (F.log shelf.new))
         (work_of (texts words.now)) (said reply)) }
     ensures unput { OnErr result (O.seen out.new ≡ O.seen out.old) }
     ensures calls { Makes (work_of (texts words.now)) (F.log shelf.old) (F.log shelf.new) }
@@ -103,9 +108,11 @@ fn perform<'a, F: Shelf, O: Sink>(
     shelf: &mut F,
     out: &mut O,
 ) -> Result<u8, Reply<'a>>
-    ensures done { IfOk result (λ status. Explains (outside (F.seen shelf.old) (O.seen out.old))
-        (outside (F.seen shelf.new) (O.seen out.new)) status (asked_of works name.now (texts words.now))) }
-    ensures stopped { IfErr result (λ reply. LeavesToSay (F.seen shelf.old) (F.seen shelf.new)
+    ensures done { IfOk result (λ status. Explains
+        (outside_at (stage (F.seen shelf.old) (F.log shelf.old)) (O.seen out.old))
+        (outside_at (stage (F.seen shelf.new) (F.log shelf.new)) (O.seen out.new)) status (asked_of works name.now (texts words.now))) }
+    ensures stopped { IfErr result (λ reply. LeavesToSay (stage (F.seen shelf.old) (F.log shelf.old))
+        (stage (F.seen shelf.new) (F.log shelf.new))
         (asked_of works name.now (texts words.now)) (said reply)) }
     ensures unput { OnErr result (O.seen out.new ≡ O.seen out.old) }
     ensures calls { Makes (asked_of works name.now (texts words.now)) (F.log shelf.old) (F.log shelf.new) }
@@ -128,9 +135,11 @@ fn work<'a, F: Shelf, O: Sink>(
     shelf: &mut F,
     out: &mut O,
 ) -> Result<u8, Reply<'a>>
-    ensures done { IfOk result (λ status. Explains (outside (F.seen shelf.old) (O.seen out.old))
-        (outside (F.seen shelf.new) (O.seen out.new)) status (asks_of works verb (rows_of (found_of matches.now)))) }
-    ensures stopped { IfErr result (λ reply. LeavesToSay (F.seen shelf.old) (F.seen shelf.new)
+    ensures done { IfOk result (λ status. Explains
+        (outside_at (stage (F.seen shelf.old) (F.log shelf.old)) (O.seen out.old))
+        (outside_at (stage (F.seen shelf.new) (F.log shelf.new)) (O.seen out.new)) status (asks_of works verb (rows_of (found_of matches.now)))) }
+    ensures stopped { IfErr result (λ reply. LeavesToSay (stage (F.seen shelf.old) (F.log shelf.old))
+        (stage (F.seen shelf.new) (F.log shelf.new))
         (asks_of works verb (rows_of (found_of matches.now))) (said reply)) }
     ensures unput { OnErr result (O.seen out.new ≡ O.seen out.old) }
     ensures calls { Makes (asks_of works verb (rows_of (found_of matches.now))) (F.log shelf.old) (F.log shelf.new) }

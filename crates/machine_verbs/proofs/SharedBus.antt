@@ -4,19 +4,19 @@ use Rattle.std.specs.Prelude.{codes, decimal, slice_get}
 use Rattle.std.proofs.lemmas.List.{append-nil, length-map, length-take-le}
 use Rattle.gr_base.specs.Prelude.{Adds, AddsLess, Rose}
 use Rattle.gr_base.proofs.Added.{Adds-then, AddsLess-then, AddsLess-more}
-use Rattle.gr_outside.specs.Prelude.{ShelfSeen, SinkSeen}
+use Rattle.gr_outside.specs.Prelude.{SinkSeen}
 use Rattle.lt_isa.specs.Prelude.{State, Parts, IsInRange, FitsObject, start_state, Stamped, trace_from}
 use Rattle.processor.specs.Prelude.{EndsAs}
 use Rattle.bus_arbiter.specs.Prelude.{Core, LeftIf, RanTo, end_as, trace_to, traces_to, AllFit, traces_on, AllLeft, Transfer}
 use Rattle.path_oram.specs.Prelude.{Oram}
 use Rattle.rand_chacha.specs.ChaCha.{ChaCha}
 use Rattle.call_replies.specs.declared.replies.Verdict.TheVariants.{Shared}
-use Rattle.call_steps.specs.Prelude.{BankBegins, HasBegun, Explains, outside, HasLeft, WhatIsJoined, WhenItHalts, HaltOf, bus_seen, core_line, core_lines, halt_text, transfer_lines, Asks, Ends, Work}
+use Rattle.call_steps.specs.Prelude.{BankBegins, HasBegun, Explains, outside_at, Stage, HasReached, WhatIsJoined, WhenItHalts, HaltOf, bus_seen, core_line, core_lines, halt_text, transfer_lines, Asks, Ends, Work}
 use Rattle.command_words.specs.Prelude.{Pair}
 use Rattle.machine_verbs.specs.Prelude.{Read, all_halted, bus_work, shares_bus, with_halts, AllBegin, AreHalts, PutsHalts, PutsJoined, PutsShared, halts_of}
 use Rattle.call_steps.proofs.Answering.{judged-said}
 use Rattle.machine_verbs.proofs.BusWatches.{halt-some}
-use Rattle.call_steps.proofs.Progressing.{leads-on}
+use Rattle.call_steps.proofs.Reaching.{with-answer}
 use Rattle.call_steps.proofs.Saying.{halts-or-not}
 
 -- ---- cores at the start of their runs
@@ -283,30 +283,30 @@ shared-cut before after traces cut =
 
 -- ---- the work
 
-leads-halts : (shelf : ShelfSeen) (work : Work) (n : ℕ) (os : List Parts) (ds : List (List (List ℤ)))
-    (halts : List (Option ℕ)) (next : List (Option ℕ) → Work) → HasLeft shelf work (with_halts n os ds next)
-    → AreHalts (traces_on os ds n) halts → HasLeft shelf work (next halts)
-leads-halts shelf work n [] ds [] next leads are = leads
-leads-halts shelf work n [] ds (h ∷ halts) next leads are = absurd are
-leads-halts shelf work n (o ∷ os) [] [] next leads are = leads
-leads-halts shelf work n (o ∷ os) [] (h ∷ halts) next leads are = absurd are
-leads-halts shelf work n (o ∷ os) (d ∷ ds) [] next leads are = absurd are
-leads-halts shelf work n (o ∷ os) (d ∷ ds) (h ∷ halts) next leads are =
-    leads-halts shelf work n os ds halts (λ more. next (h ∷ more))
-    (leads-on shelf work (WhenItHalts o d n) (λ halt. with_halts n os ds (λ more. next (halt ∷ more))) h leads are.0)
+reached-halts : {before after : Stage} {work : Work} (n : ℕ) (os : List Parts) (ds : List (List (List ℤ)))
+    (halts : List (Option ℕ)) (next : List (Option ℕ) → Work) → HasReached before after work (with_halts n os ds next)
+    → AreHalts (traces_on os ds n) halts → HasReached before after work (next halts)
+reached-halts n [] ds [] next reached are = reached
+reached-halts n [] ds (h ∷ halts) next reached are = absurd are
+reached-halts n (o ∷ os) [] [] next reached are = reached
+reached-halts n (o ∷ os) [] (h ∷ halts) next reached are = absurd are
+reached-halts n (o ∷ os) (d ∷ ds) [] next reached are = absurd are
+reached-halts n (o ∷ os) (d ∷ ds) (h ∷ halts) next reached are =
+    reached-halts n os ds halts (λ more. next (h ∷ more))
+    (with-answer (WhenItHalts o d n) (λ halt. with_halts n os ds (λ more. next (halt ∷ more))) h reached are.0)
     are.1
 
 -- the lines for what was read were printed
-pub shared-said : (shelf now : ShelfSeen) (before after : SinkSeen) (status : ℕ) (pairs : List Pair) (cycles : ℕ)
-    (read : Read) → HasLeft shelf (bus_work pairs cycles) (shares_bus cycles read) → now ≡ shelf
+pub shared-said : (shelf now : Stage) (before after : SinkSeen) (status : ℕ) (pairs : List Pair) (cycles : ℕ)
+    (read : Read) → HasReached shelf now (bus_work pairs cycles) (shares_bus cycles read)
     → PutsShared before after (traces_on read.objects read.inputs cycles) status
-    → Explains (outside shelf before) (outside now after) status (Some (bus_work pairs cycles))
-shared-said shelf now before after status pairs cycles read leads same shared =
+    → Explains (outside_at shelf before) (outside_at now after) status (Some (bus_work pairs cycles))
+shared-said shelf now before after status pairs cycles read reached shared =
     judged-said shelf now before after status (bus_work pairs cycles)
     (bus_seen shared.joined shared.halts) (Shared (all_halted shared.halts))
-    (leads-on shelf (bus_work pairs cycles) (WhatIsJoined read.objects read.inputs cycles)
+    (with-answer (WhatIsJoined read.objects read.inputs cycles)
     (λ joined. Ends (bus_seen joined shared.halts) (Shared (all_halted shared.halts))) shared.joined
-    (leads-halts shelf (bus_work pairs cycles) cycles read.objects read.inputs shared.halts
+    (reached-halts cycles read.objects read.inputs shared.halts
     (λ halts. Asks (WhatIsJoined read.objects read.inputs cycles)
     (λ joined. Ends (bus_seen joined halts) (Shared (all_halted halts))))
-    leads shared.are) shared.joins) same shared.put
+    reached shared.are) shared.joins) shared.put

@@ -11,7 +11,7 @@ use Rattle.call_replies.specs.declared.replies.Verdict.TheVariants.{Traced}
 use Rattle.call_steps.specs.Prelude.{PutsSaid, Seen, events_alone, run_seen, IsVerdict, said_at, Ends, IsRight, WhatIsShown, WhenItHalts, ExplainsRest}
 use Rattle.machine_verbs.specs.Prelude.{IsTextOfTrace, PutsTrace, kept, traces_on, shows_on}
 use Rattle.machine_verbs.proofs.Watches.{kept-events, text-alone, kept-all}
-use Rattle.call_steps.proofs.Progressing.{leads-on}
+use Rattle.call_steps.proofs.Reaching.{with-answer}
 use Rattle.call_steps.proofs.Answering.{judged-said}
 
 added-only : (held : Option (List ℕ)) (bytes text : List ℕ) → held ≡ Some bytes → Adds (Some []) held text → bytes ≡ text
@@ -49,25 +49,23 @@ pub traced-said : (before after : SinkSeen) (status cycles seed : ℕ) (paths re
     → IsRight (WhatIsShown recursive o inputs cycles seed) (run_seen told levels))
     → PutsTrace before after (trace o inputs cycles) (kept paths told) Are status
     → ExplainsRest before after status (traces_on paths recursive cycles seed o inputs)
-traced-said before after status cycles seed false recursive o inputs told Are events none right put shelf now work leads
-    same =
+traced-said before after status cycles seed false recursive o inputs told Are events none right put shelf now work
+    reached =
     let alone : run_seen (kept false told) put.levels ≡ events_alone (trace o inputs cycles) =
     ap (λ l. run_seen (kept false told) l) (none refl put.levels put.are)
     ∙ ap (λ l. run_seen l []) (kept-events told ∙ ap (map AnEvent) events) in
     judged-said shelf now before after status work (events_alone (trace o inputs cycles)) (Traced (is_some put.halt))
-    (leads-on shelf work (WhenItHalts o inputs cycles) (shows_on false recursive cycles seed o inputs) put.halt leads
-    put.is) same
+    (with-answer (WhenItHalts o inputs cycles) (shows_on false recursive cycles seed o inputs) put.halt reached put.is)
     (subst (λ (seen : Seen). PutsSaid before after (said_at (IsVerdict seen (Traced (is_some put.halt)))) status)
     alone put.put)
-traced-said before after status cycles seed true recursive o inputs told Are events none right put shelf now work leads
-    same =
+traced-said before after status cycles seed true recursive o inputs told Are events none right put shelf now work
+    reached =
     let seen : Seen = run_seen told put.levels in
     let first =
-    leads-on shelf work (WhenItHalts o inputs cycles) (shows_on true recursive cycles seed o inputs) put.halt leads
-    put.is in
+    with-answer (WhenItHalts o inputs cycles) (shows_on true recursive cycles seed o inputs) put.halt reached put.is in
     judged-said shelf now before after status work seen (Traced (is_some put.halt))
-    (leads-on shelf work (WhatIsShown recursive o inputs cycles seed)
-    (λ seen. Ends seen (Traced (is_some put.halt))) seen first (right refl put.levels put.are)) same
+    (with-answer (WhatIsShown recursive o inputs cycles seed)
+    (λ seen. Ends seen (Traced (is_some put.halt))) seen first (right refl put.levels put.are))
     (subst (λ l. PutsSaid before after
     (said_at (IsVerdict (run_seen l put.levels) (Traced (is_some put.halt)))) status)
     (kept-all told) put.put)

@@ -1,7 +1,7 @@
 -- A verb that stops before a write leaves the files as they were.
 use Rattle.std.proofs.Common.{◌≡◌, ap}
 use Rattle.gr_outside.specs.Prelude.{ShelfSeen}
-use Rattle.call_steps.specs.Prelude.{LeavesShelf, OnlyReads, NoRoomLeft, Stops, StopsAt, nothing_seen, Ends, Ending, IsTooLong, IsUnread, IsVerdict, IsWritten, Work}
+use Rattle.call_steps.specs.Prelude.{LeavesShelf, OnlyReads, NoRoomLeft, Stage, Stops, StopsAt, nothing_seen, Ends, Ending, IsTooLong, IsUnread, IsVerdict, IsWritten, Work}
 use Rattle.call_replies.specs.Prelude.{Said}
 use Rattle.call_replies.specs.declared.replies.Verdict.TheVariants.{Accepted}
 
@@ -19,7 +19,8 @@ ending-leaves (IsTooLong name limit) before after leaves = ap (λ (s : ShelfSeen
 ending-leaves (IsVerdict seen verdict) before after leaves = ap (λ (s : ShelfSeen). s.files) leaves
 ending-leaves (IsWritten name bytes done) before after leaves = absurd leaves
 
-pub files-stay : (before after : ShelfSeen) (work : Work) (said : Said) → Stops before after work said
-    → after.files ≡ before.files
-files-stay before after work said (NoRoomLeft only is) = only-reads before after only
-files-stay before after work said (StopsAt ending may leaves is) = ending-leaves ending before after leaves
+pub files-stay : (before after : Stage) (work : Work) (said : Said) → Stops before after work said
+    → after.seen.files ≡ before.seen.files
+files-stay before after work said (NoRoomLeft only is calls) = only-reads before.seen after.seen only
+files-stay before after work said (StopsAt ending may calls leaves is) =
+    ending-leaves ending before.seen after.seen leaves

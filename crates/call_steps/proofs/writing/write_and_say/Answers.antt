@@ -1,4 +1,4 @@
-use Rattle.std.proofs.Common.{List, ℕ, true, false, inr, ap, subst, Err, ◌∙◌}
+use Rattle.std.proofs.Common.{List, ℕ, true, false, inl, inr, ap, subst, Err, ◌∙◌}
 use Rattle.call_steps.specs.Prelude.{PutsSaid, Written, NotWritten, Starved}
 use Rattle.call_steps.proofs.writing.write_and_say.Goals as goal
 
@@ -38,3 +38,14 @@ returns-in-Err-Memory-clause-calls g c = inr (false, c.in-Err-Memory.ensures.log
 
 pub returns-in-Err-Failed-clause-calls : goal.returns-in-Err-Failed-clause-calls
 returns-in-Err-Failed-clause-calls g c = inr (false, c.in-Err-Failed.ensures.logged)
+
+pub returns-in-Ok-clause-noted : goal.returns-in-Ok-clause-noted
+returns-in-Ok-clause-noted g c four five = c.in-Ok.ensures.logged
+
+pub returns-in-Err-Memory-clause-noted : goal.returns-in-Err-Memory-clause-noted
+returns-in-Err-Memory-clause-noted g c four five =
+    elim c.say_no_memory.ensures [ inl five' ↦ absurd (five five'.0) | inr four' ↦ absurd (four four'.0) ]
+
+pub returns-in-Err-Failed-clause-noted : goal.returns-in-Err-Failed-clause-noted
+returns-in-Err-Failed-clause-noted g c four five =
+    elim c.put_text-in-Err-Failed.ensures [ inl four' ↦ absurd (four four'.0) | inr four' ↦ absurd (four four'.0) ]

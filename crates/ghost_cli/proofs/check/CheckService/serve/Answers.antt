@@ -1,6 +1,6 @@
 use Rattle.std.proofs.Common.{refl}
 use Rattle.call_replies.specs.declared.replies.Verdict.TheVariants.{Accepted}
-use Rattle.call_steps.specs.Prelude.{WorkStops, nothing_seen, Ends}
+use Rattle.call_steps.specs.Prelude.{WorkStops, nothing_seen, Ends, stage}
 use Rattle.call_steps.proofs.Answering.{left-said, passed-on}
 use Rattle.call_steps.proofs.Reaching.{with-verdict}
 use Rattle.ghost_cli.proofs.check.CheckService.serve.Goals as goal
@@ -12,7 +12,8 @@ returns-in_err-find_accepted-clause-stopped g c =
 
 pub returns-clause-done : goal.returns-clause-done
 returns-clause-done g c =
-    left-said (g.F.Shelf.seen c.args.shelf.now) (g.F.Shelf.seen c.find_accepted.new.shelf)
+    left-said (stage (g.F.Shelf.seen c.args.shelf.now) (g.F.Shelf.log c.args.shelf.now))
+    (stage (g.F.Shelf.seen c.find_accepted.new.shelf) (g.F.Shelf.log c.find_accepted.new.shelf))
     (g.O.Sink.seen c.args.out.now) _ (g.O.Sink.seen c.say.new.out) _ _ _
     (WorkStops _ refl
     (with-verdict Accepted (c.in_ok-find_accepted.ensures.found (λ o. Ends nothing_seen Accepted))).stops) refl

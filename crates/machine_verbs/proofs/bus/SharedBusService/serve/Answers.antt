@@ -1,6 +1,6 @@
-use Rattle.std.proofs.Common.{refl}
+use Rattle.std.proofs.Common.{None, refl}
 use Rattle.call_replies.specs.declared.replies.Reply.TheVariants.{NoMemory}
-use Rattle.call_steps.specs.Prelude.{StopsHere, NoRoomYet, WorkStops}
+use Rattle.call_steps.specs.Prelude.{StopsHere, NoRoomYet, WorkStops, stage}
 use Rattle.call_steps.proofs.Answering.{passed-on}
 use Rattle.machine_verbs.proofs.Pairing.{bus-reached, bus-stopped}
 use Rattle.call_steps.proofs.Progressing.{same-only}
@@ -22,10 +22,11 @@ returns-in_err-share_bus-clause-stopped g c =
 pub returns-clause-done : goal.returns-clause-done
 returns-clause-done g c =
     let n = c.args.words.cycles in
-    let reached = bus-reached n c.as_slice.ensures.value c.in_ok-cores.ensures.found in
-    shared-said (g.F.Shelf.seen c.args.shelf.now) (g.F.Shelf.seen c.read_cores.new.shelf)
+    shared-said (stage (g.F.Shelf.seen c.args.shelf.now) (g.F.Shelf.log c.args.shelf.now))
+    (stage (g.F.Shelf.seen c.read_cores.new.shelf) (g.F.Shelf.log c.read_cores.new.shelf))
     (g.O.Sink.seen c.args.out.now) (g.O.Sink.seen c.share_bus.new.out) _ c.args.words.pairs.items n
-    c.in_ok-cores.cores reached.leads reached.calm c.in_ok-share_bus.ensures.shared
+    c.in_ok-cores.cores (bus-reached n c.as_slice.ensures.value c.in_ok-cores.ensures.found)
+    c.in_ok-share_bus.ensures.shared
 
 pub returns-in_err-cores-clause-calls : goal.returns-in_err-cores-clause-calls
 returns-in_err-cores-clause-calls g c =
@@ -33,8 +34,10 @@ returns-in_err-cores-clause-calls g c =
 
 pub returns-in_err-share_bus-clause-calls : goal.returns-in_err-share_bus-clause-calls
 returns-in_err-share_bus-clause-calls g c =
-    (bus-reached c.args.words.cycles c.as_slice.ensures.value c.in_ok-cores.ensures.found).calls _ (StopsHere _ _)
+    (None, (bus-reached c.args.words.cycles c.as_slice.ensures.value c.in_ok-cores.ensures.found).calls None _
+    (StopsHere _ _))
 
 pub returns-clause-calls : goal.returns-clause-calls
 returns-clause-calls g c =
-    (bus-reached c.args.words.cycles c.as_slice.ensures.value c.in_ok-cores.ensures.found).calls _ (StopsHere _ _)
+    (None, (bus-reached c.args.words.cycles c.as_slice.ensures.value c.in_ok-cores.ensures.found).calls None _
+    (StopsHere _ _))

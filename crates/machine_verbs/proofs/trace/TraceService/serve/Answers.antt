@@ -1,5 +1,5 @@
-use Rattle.std.proofs.Common.{refl}
-use Rattle.call_steps.specs.Prelude.{StopsHere, NoRoomYet, WorkStops}
+use Rattle.std.proofs.Common.{None, refl}
+use Rattle.call_steps.specs.Prelude.{StopsHere, NoRoomYet, WorkStops, stage}
 use Rattle.call_replies.specs.declared.replies.Reply.TheVariants.{NoMemory}
 use Rattle.machine_verbs.specs.Prelude.{traces_on}
 use Rattle.call_steps.proofs.Answering.{passed-on}
@@ -23,9 +23,9 @@ returns-in_err-trace_given-clause-stopped g c =
 pub returns-clause-done : goal.returns-clause-done
 returns-clause-done g c =
     let words = c.args.words in
-    let reached = c.in_ok-given.ensures.found (traces_on words.paths words.recursive words.cycles words.seed) in
-    c.in_ok-trace_given.ensures.done (g.F.Shelf.seen c.args.shelf.now) (g.F.Shelf.seen c.find_given.new.shelf) _
-    reached.leads reached.calm
+    c.in_ok-trace_given.ensures.done (stage (g.F.Shelf.seen c.args.shelf.now) (g.F.Shelf.log c.args.shelf.now))
+    (stage (g.F.Shelf.seen c.find_given.new.shelf) (g.F.Shelf.log c.find_given.new.shelf)) _
+    (c.in_ok-given.ensures.found (traces_on words.paths words.recursive words.cycles words.seed))
 
 pub returns-in_err-given-clause-calls : goal.returns-in_err-given-clause-calls
 returns-in_err-given-clause-calls g c =
@@ -35,11 +35,11 @@ returns-in_err-given-clause-calls g c =
 pub returns-in_err-trace_given-clause-calls : goal.returns-in_err-trace_given-clause-calls
 returns-in_err-trace_given-clause-calls g c =
     let words = c.args.words in
-    (c.in_ok-given.ensures.found (traces_on words.paths words.recursive words.cycles words.seed)).calls _
-    (StopsHere _ _)
+    (None, (c.in_ok-given.ensures.found (traces_on words.paths words.recursive words.cycles words.seed)).calls None _
+    (StopsHere _ _))
 
 pub returns-clause-calls : goal.returns-clause-calls
 returns-clause-calls g c =
     let words = c.args.words in
-    (c.in_ok-given.ensures.found (traces_on words.paths words.recursive words.cycles words.seed)).calls _
-    (StopsHere _ _)
+    (None, (c.in_ok-given.ensures.found (traces_on words.paths words.recursive words.cycles words.seed)).calls None _
+    (StopsHere _ _))
