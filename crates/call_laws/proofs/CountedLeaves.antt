@@ -1,14 +1,14 @@
 -- Leaves are shown as often on one input as on another that agrees with it.
-use Rattle.std.proofs.Common.{◌≡◌, ℕ, ◌+◌, ◌<◌, ◌≤◌, ℤ, Bool, true, List, length, map, get_or, refl, sym, ap, ◌∙◌, subst, arith}
+use Rattle.std.proofs.Common.{◌≡◌, ℕ, ◌+◌, ◌<◌, ◌≤◌, ℤ, Bool, List, length, map, get_or, sym, ap, ◌∙◌, subst, arith}
 use Rattle.std.specs.Prelude.{bytes_eq}
-use Rattle.std.specs.List.{All, Contains, count_by, range_with_len}
+use Rattle.std.specs.List.{range_with_len}
 use Rattle.std.proofs.lemmas.List.{ext_get_or, get_or-map, get_or_default, length-map}
 use Rattle.std.proofs.lemmas.List.Elements.{All-from_get_or, All-get_or}
 use Rattle.std.proofs.lemmas.List.FromFn.{length-range_with_len, get_or-range_with_len}
 use Rattle.std.proofs.lemmas.List.Sorted.{Contains-permutation}
 use Rattle.std.proofs.lemmas.List.Sums.{length-filter}
 use Rattle.lt_isa.specs.Prelude.{Agree, Parts, blocks_of, IsInRange, IsOblivious}
-use Rattle.path_oram.specs.LeavesAlike.{LeavesAlike, ShowAlike, touched}
+use Rattle.path_oram.specs.LeavesAlike.{ShowAlike, touched}
 use Rattle.path_oram.specs.Prelude.{leaves_shown}
 use Rattle.path_oram.proofs.AlikeLeaves.{leaves_alike}
 use Rattle.path_oram.proofs.Paired.{order_below, order_length}

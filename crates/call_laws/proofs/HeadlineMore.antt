@@ -1,16 +1,14 @@
 -- What the headline says of the verbs and options besides those of its core.
-use Rattle.std.proofs.Common.{◌≡◌, inl, ℕ, Bool, true, false, List, [], ◌∷◌, codes, Option, Some, refl, sym, ap, ◌∙◌, subst}
-use Rattle.std.specs.FinMap.{get}
+use Rattle.std.proofs.Common.{◌≡◌, inl, ℕ, Bool, true, false, List, [], ◌∷◌, codes, Some, refl, sym, ap, ◌∙◌, subst}
 use Rattle.std.proofs.lemmas.Option.{same_Some}
-use Rattle.gr_outside.specs.Prelude.{Files, with_file}
-use Rattle.lt_isa.specs.Prelude.{Parts}
+use Rattle.gr_outside.specs.Prelude.{Files}
 use Rattle.lt_assembler.specs.Prelude.{canonical}
 use Rattle.object_file.specs.Prelude.{spelling}
 use Rattle.trace_patterns.specs.Prelude.{Accepts}
 use Rattle.call_replies.specs.declared.replies.Done.TheVariants.{Assembled, Disassembled}
 use Rattle.command_words.specs.Prelude.{AreTexts, Call, Part, Text, has_flag}
-use Rattle.command_words.specs.Windows.{always_open}
 use Rattle.command_words.specs.declared.verbs.Verb.TheVariants.{Assemble, Compile, Disassemble, Evaluate, Run, Sample, Trace}
+use Rattle.call_steps.specs.Histogram.{sample_target}
 use Rattle.call_steps.specs.Prelude.{HasLayoutFor, Holds, Writes, files_at}
 use Rattle.call_laws.specs.Prelude.{Assembles, Compiles, CompilesFast, Disassembles, Evaluates, HidesLeaves, IsDone, IsSafe, Samples, SpellsProgram, assemble_work, disassemble_work, work_of, works}
 use Rattle.call_laws.proofs.Behind.{behind-it}
@@ -116,7 +114,7 @@ module _ (words : List Text) (files afterwards : Files) (put : List ℕ) (status
         bytes = file.bytes;
         written = written-is says.output file.bytes files afterwards
             (same_Some afterwards made.0 (sym called.tells.left ∙ made.1) ∙ file.written);
-        object = compiled-program false _ file.p 9 always_open fast file.bytes file.spells file.compiled;
+        object = compiled-program false _ file.p (sample_target fast) file.bytes file.spells file.compiled;
       }
 
   pub traced-leaves : (object input : Text) (parts : List Part)

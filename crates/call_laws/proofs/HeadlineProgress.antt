@@ -1,5 +1,5 @@
 -- Work that can be done is done, if no read, write or print failed and memory didn't run out.
-use Rattle.std.proofs.Common.{◌≡◌, ◌⊎◌, inl, inr, ℕ, ◌<◌, ◌≤◌, ℤ, Bool, true, false, List, [], ◌∷◌, codes, length, Option, Some, None, is_some, Result, Ok, Err, refl, sym, ap, ◌∙◌, subst}
+use Rattle.std.proofs.Common.{◌≡◌, inl, inr, ℕ, ◌≤◌, ℤ, Bool, true, false, List, [], ◌∷◌, codes, length, Option, Some, None, is_some, Result, Ok, Err, refl, sym, ap, ◌∙◌, subst}
 use Rattle.std.specs.FinMap.{get}
 use Rattle.gr_outside.specs.Prelude.{Files}
 use Rattle.gr_word.specs.declared.variables.Want.{Want}
@@ -15,10 +15,10 @@ use Rattle.call_replies.specs.declared.source_faults.SourceFault.{SourceFault}
 use Rattle.command_words.specs.Prelude.{Call, Part, Text, block_log_given, has_flag, number_given, value_in, window_given}
 use Rattle.command_words.specs.declared.verbs.Verb.TheVariants.{Check, Compile, Evaluate, Run, Trace}
 use Rattle.command_words.specs.declared.windows.Window.{Window}
-use Rattle.call_steps.specs.Prelude.{AreInputs, Asks, Ending, Ends, HasRoom, Holds, IsRight, MayEnd, Reads, Seen, Spells, WhatIsLeft, WhatIsShown, WhenItHalts, WhetherAccepted, WhichCompiled, WhichInputs, WhichObject, WhichSource, Work, compiles_to, compile_work, input_limit, nothing_seen, object_limit, on_compiled, on_judged, or_ends, said_at, source_limit, target_for, with_accepted, with_object, with_source, with_variables}
+use Rattle.call_steps.specs.Prelude.{Asks, Ending, Ends, HasRoom, Holds, IsRight, MayEnd, Reads, Seen, Spells, WhetherAccepted, WhichCompiled, WhichInputs, WhichObject, WhichSource, Work, compiles_to, compile_work, input_limit, nothing_seen, object_limit, on_compiled, on_judged, or_ends, said_at, source_limit, target_for, with_accepted, with_source, with_variables}
 use Rattle.call_steps.specs.declared.targets.Target.{Target}
 use Rattle.machine_verbs.specs.Prelude.{on_halt, run_work, runs_on, shows_on, trace_work, traces_on}
-use Rattle.call_laws.specs.Prelude.{AreRunOptions, Fails, GivesInputs, HoldsAccepted, HoldsInputs, HoldsProgram, IsDone, IsDoneOrStarved, MoreProgress, Progress, SucceedsOrStarves, check_work, done_status, evaluate_work, evaluates_on, on_left, work_of, works}
+use Rattle.call_laws.specs.Prelude.{AreRunOptions, Fails, GivesInputs, HoldsAccepted, HoldsProgram, IsDone, IsDoneOrStarved, MoreProgress, Progress, SucceedsOrStarves, check_work, done_status, evaluate_work, evaluates_on, on_left, work_of, works}
 use Rattle.call_laws.proofs.HeadlineCalls.{Called, asked-by, ended}
 use Rattle.call_laws.proofs.HeadlineVerbs.{traced-status}
 use Rattle.call_laws.proofs.OneAnswers.{OfRead, Exceeds, Gives, Lacks, answer-of, inputs-once, judged-once, none-some, object-once, of-told, past-limit, some-once}
@@ -282,4 +282,4 @@ module _ (words : List Text) (files afterwards : Files) (put : List ℕ) (status
   }
 
   pub more-progress : MoreProgress words files status
-  more-progress = record { compile = compile-any; evaluate = evaluate-any; }
+  more-progress = record { compile = compile-any; evaluate = evaluate-any }

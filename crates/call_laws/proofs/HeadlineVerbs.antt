@@ -5,8 +5,8 @@ use Rattle.std.specs.FinMap.{get}
 use Rattle.std.proofs.lemmas.Option.{same_Some}
 use Rattle.gr_outside.specs.Prelude.{Files, with_file}
 use Rattle.lt_isa.specs.Prelude.{Parts, IsOblivious, trace, wants_of}
-use Rattle.command_words.specs.declared.windows.Window.{Window}
 use Rattle.trace_patterns.specs.Prelude.{Accepts}
+use Rattle.call_steps.specs.declared.targets.Target.{Target}
 use Rattle.flow_types.specs.Prelude.{declared_wants}
 use Rattle.run_data.specs.Prelude.{output_of}
 use Rattle.procs_tree.specs.Prelude.{added, inlined_body}
@@ -41,7 +41,7 @@ safe-holds files name safe =
     record { o = safe.o; held = safe-object files name safe; oblivious = safe.oblivious }
 
 -- what is written is there
-written-is : (name bytes : List ℕ) (files afterwards : Files) → afterwards ≡ with_file name bytes files
+pub written-is : (name bytes : List ℕ) (files afterwards : Files) → afterwards ≡ with_file name bytes files
     → get afterwards name ≡ Some bytes
 written-is name bytes files afterwards is =
     subst (λ (fs : Files). get fs name ≡ Some bytes) (sym is) (written-there name bytes files)
@@ -66,12 +66,10 @@ typed-program procs text p spells =
     spells-program procs text p spells.spells (means-its-calls procs text p spells.spells)
 
 -- what is compiled from a text that parses as a program
-pub compiled-program : (procs : Bool) (text : List ℕ) (p : Source) (block_log : ℕ) (window : Window) (fast : Bool)
-    (bytes : List ℕ) → SpellsTyped procs text p → IsCompiledTo p (target_for block_log window fast) bytes
-    → IsObjectOf Accepts (SpellsProgram procs) block_log window text bytes
-compiled-program procs text p block_log window fast bytes spells compiled =
-    let target = target_for block_log window fast in
-    record {
+pub compiled-program : (procs : Bool) (text : List ℕ) (p : Source) (target : Target) (bytes : List ℕ)
+    → SpellsTyped procs text p → IsCompiledTo p target bytes
+    → IsObjectOf Accepts (SpellsProgram procs) target.profile text bytes
+compiled-program procs text p target bytes spells compiled = record {
   p = p;
   program = typed-program procs text p spells;
   o = compiled.o;
@@ -159,7 +157,7 @@ shown-so files true recursive cycles seed o d halt ending comes =
       alone = λ e. absurd (true≢false e);
     }
 
-traced-status : (halted : Bool) → verdict_status (Traced halted) ≡ done_status halted
+pub traced-status : (halted : Bool) → verdict_status (Traced halted) ≡ done_status halted
 traced-status true = refl
 traced-status false = refl
 
@@ -329,6 +327,7 @@ module _ (words : List Text) (files afterwards : Files) (put : List ℕ) (status
   pub compiled : (source output : Text) (parts : List Part)
       → Call words Compile (source ∷ output ∷ []) parts → status ≡ 0
       → Compiled (has_flag (codes "procs") parts) (has_flag (codes "fast") parts) files afterwards source output parts
+  unfolding compiled-program
   compiled source output parts call zero =
       let procs = has_flag (codes "procs") parts in
       let fast = has_flag (codes "fast") parts in
@@ -349,7 +348,7 @@ module _ (words : List Text) (files afterwards : Files) (put : List ℕ) (status
           bytes = file.bytes;
           written = written-is output file.bytes files afterwards
               (same_Some afterwards found.0 (sym called.tells.left ∙ found.1) ∙ file.written);
-          object = compiled-program procs found.2.text file.p given.0 given.1 fast file.bytes file.spells file.compiled;
+          object = compiled-program procs found.2.text file.p target file.bytes file.spells file.compiled;
           layout = λ plain. subst (λ (b : Bool). HasLayoutFor b file.p given.0 file.compiled.o) plain
               file.compiled.layout;
         };

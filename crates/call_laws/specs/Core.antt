@@ -3,12 +3,13 @@
 -- work is done whenever it can be: if no read, write or print failed, then an accepted object passes the check and runs
 -- on inputs that fit, and a well-typed program within the limits is compiled and evaluated. Only memory may run out,
 -- with status 5.
-use Rattle.std.specs.Prelude.{◌≡◌, ◌⊎◌, ℕ, ◌<◌, ◌≤◌, ℤ, Bool, true, false, List, [], ◌∷◌, codes, length, Option, Some, is_some}
+use Rattle.std.specs.Prelude.{◌≡◌, ◌⊎◌, ℕ, ◌≤◌, ℤ, false, List, [], ◌∷◌, codes, length, Some, is_some}
 use Rattle.std.specs.Option.{option_map}
 use Rattle.std.specs.FinMap.{get}
 use Rattle.gr_outside.specs.Shelf.{Files}
 use Rattle.gr_word.specs.declared.variables.Want.{Want}
 use Rattle.lt_isa.specs.Object.{Parts, usual_latencies}
+use Rattle.lt_isa.specs.declared.profiles.Profile.{Profile}
 use Rattle.lt_isa.specs.Start.{wants_of}
 use Rattle.src_parser.specs.Source.{SpellsSource}
 use Rattle.flow_types.specs.Wants.{declared_wants}
@@ -38,7 +39,7 @@ use Rattle.call_laws.specs.Watched.{HoldsInputs, HoldsObject, Watched, done_stat
 
 -- The bytes encode an object that runs as the program of the text means, and reads and writes text as it does. It is
 -- accepted, is for the profile, and has the usual latencies.
-pub record IsObjectOf (Accepted : Parts → Type 0) (Spells : List ℕ → Source → Type 0) (block_log : ℕ) (window : Window)
+pub record IsObjectOf (Accepted : Parts → Type 0) (Spells : List ℕ → Source → Type 0) (profile : Profile)
     (text bytes : List ℕ) : Type 0 where
   pub p : Source
   pub program : Spells text p
@@ -47,7 +48,7 @@ pub record IsObjectOf (Accepted : Parts → Type 0) (Spells : List ℕ → Sourc
   pub accepted : Accepted o
   pub runs : RunsAsMeant p o
   pub texts : TextsAsMeant p o
-  pub machine : IsFor (windowed_profile block_log window) usual_latencies o
+  pub machine : IsFor profile usual_latencies o
 
 -- The output file is such an object file of the source's text, for blocks and a window as the words say. Without
 -- `--fast` its variables are at the places that the standard layout gives them.
@@ -61,7 +62,7 @@ pub record Compiles (Accepted : Parts → Type 0) (Spells : List ℕ → Source 
   pub opened : window_given (value_in (codes "window") parts) ≡ Some window
   pub bytes : List ℕ
   pub written : get afterwards output ≡ Some bytes
-  pub object : IsObjectOf Accepted Spells block_log window text bytes
+  pub object : IsObjectOf Accepted Spells (windowed_profile block_log window) text bytes
   pub layout : has_flag (codes "fast") parts ≡ false → HasLayout object.p block_log object.o
 
 -- `eval` wrote what the program of the source means on the inputs, if its loops ended within the turns

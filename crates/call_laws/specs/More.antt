@@ -1,9 +1,9 @@
 -- What the other verbs and options do: procedures, `--fast`, `infer`, `asm`, `dis`, `sample`, `bus`, and the leaves that
 -- runs show.
-use Rattle.std.specs.Prelude.{◌≡◌, ℕ, ℤ, Bool, true, false, List, [], ◌∷◌, ◌++◌, codes, Option, Some, Ok, is_some}
+use Rattle.std.specs.Prelude.{◌≡◌, ℕ, ℤ, Bool, true, false, List, [], ◌∷◌, ◌++◌, codes, Option, Some, Ok}
 use Rattle.std.specs.FinMap.{get}
 use Rattle.gr_outside.specs.Shelf.{Files}
-use Rattle.lt_isa.specs.Object.{Parts}
+use Rattle.lt_isa.specs.Object.{Parts, usual_profile}
 use Rattle.lt_isa.specs.Oblivious.{IsOblivious}
 use Rattle.lt_isa.specs.Start.{wants_of}
 use Rattle.lt_isa.specs.declared.symbols.Note.{Note}
@@ -27,7 +27,7 @@ use Rattle.command_words.specs.CommandLines.{Part, StandTogether, Text, has_flag
 use Rattle.command_words.specs.Options.{block_log_given, items_given, number_given}
 use Rattle.command_words.specs.Pairs.{Pair, pairs_of}
 use Rattle.command_words.specs.VerbLines.{Call}
-use Rattle.command_words.specs.Windows.{always_open, window_given}
+use Rattle.command_words.specs.Windows.{window_given}
 use Rattle.command_words.specs.declared.windows.Window.{Window}
 use Rattle.command_words.specs.declared.verbs.Verb.TheVariants.{Assemble, Bus, Compile, Disassemble, Evaluate, Infer, Run, Sample, Trace}
 use Rattle.call_steps.specs.Compiled.{HasRoom}
@@ -103,7 +103,7 @@ pub record Samples (Accepted : Parts → Type 0) (words : List Text) (afterwards
   pub given : items_given number ≡ Some items
   pub bytes : List ℕ
   pub written : get afterwards output ≡ Some bytes
-  pub object : IsObjectOf Accepted SpellsSource 9 always_open (sample_text items) bytes
+  pub object : IsObjectOf Accepted SpellsSource (usual_profile 9) (sample_text items) bytes
 
 -- each pair of files holds an object and its inputs
 abbrev pub AllHeld : Files → List Pair → List Parts → List (List (List ℤ)) → Type 0

@@ -2,7 +2,7 @@
 -- printed and of its status: an object that they accept is oblivious, what `trace` prints is the trace of the run, and
 -- what `run` writes is what the run leaves. (GhostRider, ASPLOS 2015: memory-trace obliviousness; here of words and
 -- files.)
-use Rattle.std.specs.Prelude.{◌≡◌, ◌≢◌, ◌⊎◌, ℕ, ℤ, Bool, true, false, List, [], ◌∷◌, ◌++◌, codes, Option, Some, None, is_some, Ok}
+use Rattle.std.specs.Prelude.{◌≡◌, ◌≢◌, ℕ, ℤ, Bool, true, false, List, [], ◌∷◌, ◌++◌, codes, Option, Some, None, is_some, Ok}
 use Rattle.std.specs.Option.{option_map}
 use Rattle.std.specs.FinMap.{get}
 use Rattle.gr_outside.specs.Shelf.{Files, with_file}

@@ -93,7 +93,7 @@ module _ (output : Option Text) where
       go (inr (inl failed)) = FailsToRead name files before after failed
       go (inr (inr on)) =
           ReadsNext name on.0 files before on.1 after on.2
-          (elim on.3 [ | inl same ↦ stays files on.1 after same | inr rest ↦ all on.0 on.1 after rest ])
+          (elim on.3 [ inl same ↦ stays files on.1 after same | inr rest ↦ all on.0 on.1 after rest ])
 
   asks : (files : List Text) (question : Question) (next : Answer question → Work)
       → ((answer : Answer question) → InTurn files (next answer)) → InTurn files (Asks question next)
