@@ -7,7 +7,7 @@ use Rattle.std.specs.Str.Parse.{digits_value}
 use Rattle.std.proofs.lemmas.Bool.{and_from, le-leb, ltb-false}
 use Rattle.gr_word.specs.Prelude.{is_name, is_name_byte, IsWord}
 use Rattle.src_lexer.specs.declared.tokens.Kind.{Kind}
-use Rattle.src_lexer.specs.Prelude.{LetterRun, Is, Big, Long, Mixed, BytePair, Two, Slashes, Apart, letter_run_of, number_run, pair_of, sign_of, word_run, Lexed, Splits, Ends, Blank, Comment, Word, Double, Single, TooBig, TooLong, Behind, Bad, token_at, with_token}
+use Rattle.src_lexer.specs.Prelude.{LetterRun, Is, Big, Long, BytePair, Two, Slashes, Apart, letter_run_of, number_run, pair_of, sign_of, word_run, Lexed, Splits, Ends, Blank, Comment, Word, Double, Single, TooBig, TooLong, Behind, Bad, token_at, with_token}
 use Rattle.src_parser.specs.Prelude.{token_kinds}
 use Rattle.block_cache_gen.proofs.RangesOfCode.{small-word}
 use Rattle.src_lexer.specs.declared.tokens.Kind.TheVariants as kind

@@ -1,5 +1,5 @@
 -- Each text splits into tokens, or has a first error.
-use Rattle.std.proofs.Common.{ℕ, zero, suc, ◌+◌, ◌<◌, ◌≤◌, Bool, true, false, List, [], ◌∷◌, length, drop, length-drop, Option, Some, None, Ok, Err, arith}
+use Rattle.std.proofs.Common.{ℕ, zero, suc, ◌+◌, ◌<◌, ◌≤◌, List, [], ◌∷◌, length, drop, length-drop, Ok, Err, arith}
 use Rattle.src_lexer.specs.declared.tokens.Token.{Token}
 use Rattle.src_lexer.specs.declared.errors.LexFault.{LexFault}
 use Rattle.src_lexer.specs.Prelude.{Splits, Ends, token_at, Found, Skipped, Piece, Faulty, found_in}

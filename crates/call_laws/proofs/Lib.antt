@@ -41,6 +41,8 @@ pub mod HeadlineOutputs
 pub mod HeadlineProgress
 pub mod HeadlineMore
 pub mod HeadlineAll
+pub mod LoggedCalls
+pub mod ReadBytes
 pub mod Members
 pub mod AllWords
 pub mod CountedLeaves

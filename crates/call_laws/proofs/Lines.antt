@@ -9,7 +9,7 @@ use Rattle.lt_isa.specs.Prelude.{Stamped}
 use Rattle.bus_arbiter.specs.Prelude.{Transfer}
 use Rattle.run_data.specs.Prelude.{event_line, event_text, leaves_text, levels_behind, levels_line}
 use Rattle.call_replies.specs.declared.replies.Verdict.{Verdict}
-use Rattle.call_replies.specs.declared.replies.Verdict.TheVariants.{Accepted, Traced, Malformed, Refused, BadSource, BadInput, Spent, BadAssembly, OffBus, Shared, NoNotes}
+use Rattle.call_replies.specs.declared.replies.Verdict.TheVariants.{Accepted, Traced, Shared}
 use Rattle.call_replies.specs.declared.replies.Done.{Done}
 use Rattle.call_replies.specs.declared.replies.Done.TheVariants.{Halted, Assembled, Disassembled, Evaluated, Compiled, Sampled, Inferred}
 use Rattle.run_data.proofs.PathTexts.{behind-text}

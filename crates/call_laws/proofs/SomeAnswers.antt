@@ -8,7 +8,7 @@ use Rattle.std.proofs.lemmas.Bool.{cases_lt}
 use Rattle.gr_base.specs.Prelude.{Within}
 use Rattle.gr_outside.specs.Prelude.{Files}
 use Rattle.gr_word.specs.declared.variables.Want.{Want}
-use Rattle.lt_isa.specs.Prelude.{Observed, RamRead, RamWrite, EncRead, EncWrite, Oram, Halted, Parts, IsInRange, ProfileFits, FitsObject, trace, wants_of, HaltsAt, Stamped, seen_at}
+use Rattle.lt_isa.specs.Prelude.{Observed, Halted, Parts, IsInRange, ProfileFits, FitsObject, trace, wants_of, HaltsAt, Stamped, seen_at}
 use Rattle.lt_isa.proofs.Variables.{wants_are_variables}
 use Rattle.trace_patterns.specs.Prelude.{Accepts, FirstRefusal}
 use Rattle.trace_patterns.specs.declared.reasons.Reason.{Reason}

@@ -5,7 +5,7 @@ use Rattle.gr_word.specs.declared.variables.Label.{Label}
 use Rattle.gr_word.specs.declared.variables.Label.TheVariants.{Public}
 use Rattle.gr_word.specs.declared.variables.Shape.{Shape}
 use Rattle.gr_word.specs.declared.variables.Shape.TheVariants.{Scalar, Array}
-use Rattle.src_tree.specs.Prelude.{Tree, Number, Variable, Element, Operation, Test, Source, IsFirstFault, NamedAgain, IllTyped, ManyVariables, BadLength, ManyWords, HighExpression, HeavyBody, Context, context_of, higher, secret_label, label_at, label_of, label_of_test, where_true, kind_fault, use_fault, names_fault, leaks, has_leaking_index, flow_fault, guard_fault, loop_fault, typing_fault, height_fault, too_high, same_shape, shown_place, shown_number, StatementFault, IsFirstAt}
+use Rattle.src_tree.specs.Prelude.{Tree, Number, Variable, Element, Operation, Test, Source, IsFirstFault, IllTyped, HighExpression, Context, context_of, higher, secret_label, label_at, label_of, label_of_test, where_true, kind_fault, use_fault, names_fault, leaks, has_leaking_index, flow_fault, guard_fault, loop_fault, typing_fault, height_fault, too_high, same_shape, shown_place, shown_number, StatementFault, IsFirstAt}
 use Rattle.src_tree.specs.declared.faults.TypeError.{TypeError}
 use Rattle.src_tree.specs.declared.faults.Which.TheVariants.{Height}
 use Rattle.procs_tree.specs.Prelude.{FoundCall, ProcedureFault, RepeatsName, UsesOther, CallFault, CallsNone, CountDiffers, PassesOther, IsFirstCallFault, InProcedure, InCall, TooMany, Procedure, File}

@@ -17,5 +17,6 @@ pub mod Core
 pub mod More
 pub mod Headline
 pub mod HeadlineFollows
+pub mod ReadBytes
 pub mod Counting
 pub mod Prelude

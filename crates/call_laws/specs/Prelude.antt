@@ -20,6 +20,8 @@ unfoldable pub use Rattle.call_laws.specs.Watched.{done_status, with_output}
 pub use Rattle.call_laws.specs.HeadlineFollows.{Tells}
 unfoldable pub use Rattle.call_laws.specs.HeadlineFollows.{Fails, HasHeadline, HeadlineFollows}
 unfoldable pub use Rattle.call_laws.specs.Infer.{infer_work, infers_to, on_inferred}
+pub use Rattle.call_laws.specs.ReadBytes.{Gains}
+unfoldable pub use Rattle.call_laws.specs.ReadBytes.{AreRead, HasReadBytes, ReadBytes, left_by}
 pub use Rattle.call_laws.specs.OneAnswer.{AreOneBut, DoneBut, HoldRun, OneAnswer, OneSource, Same, SomeAnswer}
 unfoldable pub use Rattle.call_laws.specs.OneAnswer.{AreBytes, HasOneAnswer, HasOneAnswerBut, HasSomeAnswer, TraceAgrees}
 pub use Rattle.call_laws.specs.Promises.{Answers, AnswersSo, CallLaws, IsAnswered, IsCalm, IsCompiledFile, IsInferredFile, IsSafe, IsUnreadable, IsWrittenFor, NoAnswer, NoMemory, NoMemoryCut, OfAnswer, OnlyOutput, Promises, ReadFailed, StandsAtFour, UnreadCut, WriteFailed}

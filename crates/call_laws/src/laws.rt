@@ -8,6 +8,7 @@ ghost use Rattle.call_laws.specs.Counting.{ShownAsOften};
 ghost use Rattle.call_laws.specs.HeadlineFollows.{HeadlineFollows};
 ghost use Rattle.call_laws.specs.OneAnswer.{OneAnswer, OneSource, SomeAnswer, TraceAgrees};
 ghost use Rattle.call_laws.specs.Promises.{PromisesFollow};
+ghost use Rattle.call_laws.specs.ReadBytes.{ReadBytes};
 ghost use Rattle.command_words.specs.Prelude.{WordsAsk};
 ghost use Rattle.call_laws.specs.Verbs.{works};
 
@@ -97,6 +98,13 @@ pub fn words_ask()
 /// what every call promises. It speaks of the words, the files, what was printed and the status only.
 pub fn headline_follows()
     ensures { HeadlineFollows }
+{}
+
+/// Does nothing; its clause is a law: if the shelf's log is visible and the work is done, the headline is true of any
+/// files that have the bytes that the call's reads returned, and of what its write left. Neither the contents of files
+/// nor the bytes of the sink need to be visible.
+pub fn read_bytes()
+    ensures { ReadBytes }
 {}
 
 /// Does nothing; its clause is a law of oblivious objects. Two runs on inputs that agree show leaves of an oblivious

@@ -33,11 +33,15 @@ returns-in_err-cores-clause-calls g c =
     (bus-stopped c.args.words.cycles c.as_slice.ensures.value c.in_err-cores.ensures.stopped).calls
 
 pub returns-in_err-share_bus-clause-calls : goal.returns-in_err-share_bus-clause-calls
-returns-in_err-share_bus-clause-calls g c =
-    (None, (bus-reached c.args.words.cycles c.as_slice.ensures.value c.in_ok-cores.ensures.found).calls None _
-    (StopsHere _ _))
+returns-in_err-share_bus-clause-calls g c = (
+  None,
+  (bus-reached c.args.words.cycles c.as_slice.ensures.value c.in_ok-cores.ensures.found).calls None _
+      (StopsHere _ _),
+)
 
 pub returns-clause-calls : goal.returns-clause-calls
-returns-clause-calls g c =
-    (None, (bus-reached c.args.words.cycles c.as_slice.ensures.value c.in_ok-cores.ensures.found).calls None _
-    (StopsHere _ _))
+returns-clause-calls g c = (
+  None,
+  (bus-reached c.args.words.cycles c.as_slice.ensures.value c.in_ok-cores.ensures.found).calls None _
+      (StopsHere _ _),
+)

@@ -34,12 +34,16 @@ returns-in_err-given-clause-calls g c =
 
 pub returns-in_err-trace_given-clause-calls : goal.returns-in_err-trace_given-clause-calls
 returns-in_err-trace_given-clause-calls g c =
-    let words = c.args.words in
-    (None, (c.in_ok-given.ensures.found (traces_on words.paths words.recursive words.cycles words.seed)).calls None _
-    (StopsHere _ _))
+    let words = c.args.words in (
+      None,
+      (c.in_ok-given.ensures.found (traces_on words.paths words.recursive words.cycles words.seed)).calls None _
+          (StopsHere _ _),
+    )
 
 pub returns-clause-calls : goal.returns-clause-calls
 returns-clause-calls g c =
-    let words = c.args.words in
-    (None, (c.in_ok-given.ensures.found (traces_on words.paths words.recursive words.cycles words.seed)).calls None _
-    (StopsHere _ _))
+    let words = c.args.words in (
+      None,
+      (c.in_ok-given.ensures.found (traces_on words.paths words.recursive words.cycles words.seed)).calls None _
+          (StopsHere _ _),
+    )
