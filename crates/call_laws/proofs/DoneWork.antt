@@ -5,16 +5,17 @@ use Rattle.gr_outside.specs.Prelude.{Files}
 use Rattle.gr_word.specs.declared.variables.Want.{Want}
 use Rattle.lt_isa.specs.Prelude.{Parts}
 use Rattle.lt_checker.proofs.Soundness.{accepted_is_oblivious}
+use Rattle.lt_assembler.specs.Prelude.{SpellsInText}
 use Rattle.path_oram.proofs.AlikeLeaves.{leaves_alike}
 use Rattle.src_tree.specs.Prelude.{Source}
 use Rattle.trace_patterns.specs.Prelude.{Accepts}
 use Rattle.trace_patterns.specs.declared.reasons.Reason.{Reason}
 use Rattle.bus_arbiter.specs.declared.errors.BusError.{BusError}
 use Rattle.call_replies.specs.declared.replies.Verdict.{Verdict}
-use Rattle.call_replies.specs.declared.replies.Verdict.TheVariants.{BadInput, BadSource, Malformed}
+use Rattle.call_replies.specs.declared.replies.Verdict.TheVariants.{BadAssembly, BadInput, BadSource, Malformed}
 use Rattle.machine_verbs.specs.Prelude.{on_plan}
 use Rattle.call_laws.specs.Prelude.{HoldsInputs, IsDone, IsSafe}
-use Rattle.call_steps.specs.Prelude.{SpellsObject, object_limit, IsRight, WhetherAccepted, WhichInputs, WhichObject, WhichSource, SpellsTyped, source_limit, input_limit, on_judged, or_ends, with_accepted, with_object, with_source, with_variables, Asks, Ending, Holds, MayEnd, Reads, Work, said_at}
+use Rattle.call_steps.specs.Prelude.{SpellsObject, object_limit, IsRight, WhetherAccepted, WhichAssembly, WhichInputs, WhichObject, WhichSource, SpellsTyped, source_limit, input_limit, on_judged, or_ends, text_limit, with_accepted, with_assembly, with_object, with_source, with_variables, Asks, Ending, Holds, MayEnd, Reads, Work, said_at}
 use Rattle.call_replies.specs.Prelude.{verdict_status}
 use Rattle.call_laws.proofs.Behind.{behind-it, not-done}
 
@@ -24,6 +25,14 @@ pub record Spelled (files : Files) (name : List ℕ) (next : Parts → Work) (en
   pub there : get files name ≡ Some bytes
   pub o : Parts
   pub spells : SpellsObject bytes o
+  pub comes : MayEnd (Holds files) (next o) ending
+
+-- the file is the text of an object in assembly, and the rest of the work ends so with it
+pub record Written (files : Files) (name : List ℕ) (next : Parts → Work) (ending : Ending) : Type 0 where
+  pub text : List ℕ
+  pub there : get files name ≡ Some text
+  pub o : Parts
+  pub spells : SpellsInText text o
   pub comes : MayEnd (Holds files) (next o) ending
 
 -- the object was checked: it is safe, and the rest of the work ends so with it
@@ -81,6 +90,21 @@ module _ (files : Files) (ending : Ending) (done : IsDone (said_at ending).statu
         there = read.1;
         o = found.0;
         spells = subst (IsRight (WhichObject read.0)) found.1 asked.1;
+        comes = found.2;
+      }
+
+  pub assembled-on : (name : List ℕ) (next : Parts → Work) → MayEnd (Holds files) (with_assembly name next) ending
+      → Written files name next ending
+  assembled-on name next comes =
+      let read = read-on name text_limit (λ text. Asks (WhichAssembly text) (or_ends BadAssembly next)) comes in
+      let asked = behind-it (Holds files) _ ending read.2 in
+      let found =
+      found-on BadAssembly (λ e is. omega (arith, is)) (λ e is. omega (arith, is)) next asked.0 asked.2 in
+      record {
+        text = read.0;
+        there = read.1;
+        o = found.0;
+        spells = subst (IsRight (WhichAssembly read.0)) found.1 asked.1;
         comes = found.2;
       }
 

@@ -1,15 +1,17 @@
 -- All of the headline, of a call of the program.
-use Rattle.std.proofs.Common.{◌≢◌, inl, inr, ℕ, List, Option, Some, sym, ap, ◌∙◌, subst}
+use Rattle.std.proofs.Common.{◌≢◌, inl, inr, ℕ, true, false, List, Option, Some, sym, ap, ◌∙◌, subst}
 use Rattle.std.specs.FinMap.{get}
 use Rattle.std.proofs.lemmas.Option.{same_Some}
 use Rattle.gr_outside.specs.Prelude.{Files, SameBut}
 use Rattle.command_words.specs.Prelude.{AreTexts, Text}
-use Rattle.call_laws.specs.Prelude.{Headline, NameOutput, HasHeadline, HeadlineFollows, work_of}
+use Rattle.call_laws.specs.Prelude.{Fails, Headline, NameOutput, HasHeadline, HeadlineFollows, work_of}
 use Rattle.call_steps.specs.Prelude.{Explains, Outside, MayWrite}
 use Rattle.call_laws.proofs.HeadlineBuses.{shared}
 use Rattle.call_laws.proofs.HeadlineCalls.{Called}
 use Rattle.call_laws.proofs.HeadlineOutputs.{changed-is, words-name}
-use Rattle.call_laws.proofs.HeadlineVerbs.{checked, compiled, evaluated, inferred, run, traced}
+use Rattle.call_laws.proofs.HeadlineMore.{assembled, compiled-fast, compiled-with, disassembled, evaluated-with, run-leaves, sampled, traced-leaves}
+use Rattle.call_laws.proofs.HeadlineProgress.{more-progress, progress}
+use Rattle.call_laws.proofs.HeadlineVerbs.{accepted, checked, inferred, run, traced}
 use Rattle.call_laws.proofs.Promised.{others-of}
 
 only-output : (words : List Text) (files afterwards : Files) (put : List ℕ) (status : ℕ)
@@ -29,16 +31,34 @@ only-output words files afterwards put status called name changed = elim (others
 ]
 
 headline : (words : List Text) (files afterwards : Files) (put : List ℕ) (status : ℕ)
-    → Called words files afterwards put status → Headline words files afterwards put status
+    → (called : Called words files afterwards put status)
+    → Headline (Fails called.before called.after) words files afterwards put status
 headline words files afterwards put status called = record {
-  checked = checked words files afterwards put status called;
-  traced = traced words files afterwards put status called;
-  run = run words files afterwards put status called;
-  compiled = compiled words files afterwards put status called;
-  evaluated = evaluated words files afterwards put status called;
-  inferred = inferred words files afterwards put status called;
-  shared = shared words files afterwards put status called;
-  only_output = only-output words files afterwards put status called;
+  core = record {
+    watched = record {
+      checked = checked words files afterwards put status called;
+      traced = traced words files afterwards put status called;
+      run = run words files afterwards put status called;
+      only_output = only-output words files afterwards put status called;
+    };
+    accepted = accepted words files afterwards put status called;
+    compiled = compiled-with words files afterwards put status called false;
+    evaluated = evaluated-with words files afterwards put status called false;
+    progress = progress words files afterwards put status called;
+  };
+  more = record {
+    compiled_calls = compiled-with words files afterwards put status called true;
+    evaluated_calls = evaluated-with words files afterwards put status called true;
+    compiled_fast = compiled-fast words files afterwards put status called;
+    inferred = inferred words files afterwards put status called;
+    assembled = assembled words files afterwards put status called;
+    disassembled = disassembled words files afterwards put status called;
+    sampled = sampled words files afterwards put status called;
+    shared = shared words files afterwards put status called;
+    traced_leaves = traced-leaves words files afterwards put status called;
+    run_leaves = run-leaves words files afterwards put status called;
+    progress = more-progress words files afterwards put status called;
+  };
 }
 
 pub headline-follows : HeadlineFollows

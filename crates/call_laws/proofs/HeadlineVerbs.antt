@@ -5,6 +5,7 @@ use Rattle.std.specs.FinMap.{get}
 use Rattle.std.proofs.lemmas.Option.{same_Some}
 use Rattle.gr_outside.specs.Prelude.{Files, with_file}
 use Rattle.lt_isa.specs.Prelude.{Parts, IsOblivious, trace, wants_of}
+use Rattle.trace_patterns.specs.Prelude.{Accepts}
 use Rattle.call_steps.specs.declared.targets.Target.{Target}
 use Rattle.flow_types.specs.Prelude.{declared_wants}
 use Rattle.run_data.specs.Prelude.{output_of}
@@ -16,7 +17,7 @@ use Rattle.call_replies.specs.declared.replies.Done.{Done}
 use Rattle.call_replies.specs.declared.replies.Done.TheVariants.{Evaluated, Halted}
 use Rattle.call_laws.specs.Prelude.{MeansItsCalls, check_work, evaluate_work, evaluates_on, on_left, Compiles, Evaluates, HasRun, HoldsInputs, HoldsObject, HoldsOblivious, Infers, IsObjectOf, Runs, SpellsProgram, Traces, done_status, with_output, infer_work, IsDone, IsSafe, work_of, works}
 use Rattle.command_words.specs.Prelude.{Part, Text, has_flag, value_in, number_given, Call}
-use Rattle.call_steps.specs.Prelude.{target_for, IsCompiledTo, WhenItHalts, HaltOf, run_outputs, Seen, events_alone, nothing_seen, Spells, SpellsTyped, with_accepted, with_inputs, with_variables, Asks, Ending, Ends, Holds, IsVerdict, MayEnd, Work, Writes, files_at, said_at}
+use Rattle.call_steps.specs.Prelude.{target_for, GetsNotes, HasLayoutFor, IsCompiledTo, WhenItHalts, HaltOf, run_outputs, Seen, events_alone, nothing_seen, Spells, SpellsTyped, with_accepted, with_inputs, with_variables, Asks, Ending, Ends, Holds, IsVerdict, MayEnd, Work, Writes, files_at, said_at}
 use Rattle.machine_verbs.specs.Prelude.{on_halt, run_work, shows_on, trace_work}
 use Rattle.call_replies.specs.Prelude.{verdict_status}
 use Rattle.call_laws.proofs.Behind.{behind-it}
@@ -40,7 +41,7 @@ safe-holds files name safe =
     record { o = safe.o; held = safe-object files name safe; oblivious = safe.oblivious }
 
 -- what is written is there
-written-is : (name bytes : List ℕ) (files afterwards : Files) → afterwards ≡ with_file name bytes files
+pub written-is : (name bytes : List ℕ) (files afterwards : Files) → afterwards ≡ with_file name bytes files
     → get afterwards name ≡ Some bytes
 written-is name bytes files afterwards is =
     subst (λ (fs : Files). get fs name ≡ Some bytes) (sym is) (written-there name bytes files)
@@ -66,12 +67,15 @@ typed-program procs text p spells =
 
 -- what is compiled from a text that parses as a program
 pub compiled-program : (procs : Bool) (text : List ℕ) (p : Source) (target : Target) (bytes : List ℕ)
-    → SpellsTyped procs text p → IsCompiledTo p target bytes → IsObjectOf procs text bytes
+    → SpellsTyped procs text p → IsCompiledTo p target bytes
+    → IsObjectOf Accepts (SpellsProgram procs) target.profile text bytes
 compiled-program procs text p target bytes spells compiled = record {
   p = p;
   program = typed-program procs text p spells;
   o = compiled.o;
   spells = compiled.spells;
+  accepted = compiled.accepted;
+  machine = compiled.machine;
   runs = compiled-runs p target bytes compiled.o spells.typed spells.within compiled compiled.spells;
   texts = compiled-texts p target bytes compiled.o spells.typed spells.within compiled compiled.spells;
 }
@@ -153,7 +157,7 @@ shown-so files true recursive cycles seed o d halt ending comes =
       alone = λ e. absurd (true≢false e);
     }
 
-traced-status : (halted : Bool) → verdict_status (Traced halted) ≡ done_status halted
+pub traced-status : (halted : Bool) → verdict_status (Traced halted) ≡ done_status halted
 traced-status true = refl
 traced-status false = refl
 
@@ -194,17 +198,53 @@ left-so files output p turns None ending comes = spent-so files output turns end
 
 -- ---- each verb
 
+-- what `compile` leaves, with the layout of its kind
+pub record Compiled (procs fast : Bool) (files afterwards : Files) (source output : Text) (parts : List Part)
+    : Type 0 where
+  pub of : Compiles Accepts (SpellsProgram procs) files afterwards source output parts
+  pub layout : HasLayoutFor fast of.object.p of.block_log of.object.o
+
 module _ (words : List Text) (files afterwards : Files) (put : List ℕ) (status : ℕ)
     (called : Called words files afterwards put status) where
-  pub checked : (object : Text) (parts : List Part) → Call words Check (object ∷ []) parts
-      → status ≡ 0 → HoldsOblivious files object
-  checked object parts call zero =
+  pub check-safe : (object : Text) (parts : List Part) → Call words Check (object ∷ []) parts
+      → status ≡ 0 → IsSafe files object
+  check-safe object parts call zero =
       let end = ended words files afterwards put status called (inl zero) (check_work object)
       (asked-by words files afterwards put status called (codes "check") call.more call.are _ (words-ask works).check
       (check_work object) (record { name = object; parts = parts; says = call.says; is = refl })) in
-      safe-holds files object
       (checked-on files end.ending (done-ending words files afterwards put status called (inl zero) _ end) object
       (λ o. Ends nothing_seen Accepted) end.comes).safe
+
+  pub checked : (object : Text) (parts : List Part) → Call words Check (object ∷ []) parts
+      → status ≡ 0 → HoldsOblivious files object
+  checked object parts call zero = safe-holds files object (check-safe object parts call zero)
+
+  pub accepted : (object : Text) (parts : List Part) → Call words Check (object ∷ []) parts
+      → status ≡ 0 → (o : Parts) × HoldsObject files object o × Accepts o
+  accepted object parts call zero =
+      let safe = check-safe object parts call zero in (safe.o, safe-object files object safe, safe.accepted)
+
+  pub trace-safe : (object input : Text) (parts : List Part) → Call words Trace (object ∷ input ∷ []) parts
+      → IsDone status → IsSafe files object
+  trace-safe object input parts call done =
+      let paths = has_flag (codes "paths") parts in
+      let recursive = has_flag (codes "recursive") parts in
+      let work = asked words files afterwards put status called done (codes "trace") call.more call.are in
+      let given = trace-given works call.more object input parts work.0 call.says work.1 in
+      let end = ended-by words files afterwards put status called done (codes "trace") call.more call.are work.0
+      (trace_work object input given.0 given.1 paths recursive) work.1 given.4 in
+      (checked-on files end.ending (done-ending words files afterwards put status called done _ end) object _
+      end.comes).safe
+
+  pub run-safe : (object input output : Text) (parts : List Part)
+      → Call words Run (object ∷ input ∷ output ∷ []) parts → IsDone status → IsSafe files object
+  run-safe object input output parts call done =
+      let work = asked words files afterwards put status called done (codes "run") call.more call.are in
+      let given = run-given works call.more object input output parts work.0 call.says work.1 in
+      let end = ended-by words files afterwards put status called done (codes "run") call.more call.are work.0
+      (run_work object input output given.0) work.1 given.4 in
+      (checked-on files end.ending (done-ending words files afterwards put status called done _ end) object _
+      end.comes).safe
 
   pub traced : (object input : Text) (parts : List Part)
       → Call words Trace (object ∷ input ∷ []) parts
@@ -252,7 +292,8 @@ module _ (words : List Text) (files afterwards : Files) (put : List ℕ) (status
 
   pub evaluated : (source input output : Text) (parts : List Part)
       → Call words Evaluate (source ∷ input ∷ output ∷ []) parts
-      → IsDone status → Evaluates files afterwards source input output parts status
+      → IsDone status
+      → Evaluates (SpellsProgram (has_flag (codes "procs") parts)) files afterwards source input output parts status
   evaluated source input output parts call done =
       let procs = has_flag (codes "procs") parts in
       let work = asked words files afterwards put status called done (codes "eval") call.more call.are in
@@ -284,23 +325,34 @@ module _ (words : List Text) (files afterwards : Files) (put : List ℕ) (status
       }
 
   pub compiled : (source output : Text) (parts : List Part)
-      → Call words Compile (source ∷ output ∷ []) parts
-      → status ≡ 0 → Compiles (has_flag (codes "procs") parts) files afterwards source output
+      → Call words Compile (source ∷ output ∷ []) parts → status ≡ 0
+      → Compiled (has_flag (codes "procs") parts) (has_flag (codes "fast") parts) files afterwards source output parts
+  unfolding compiled-program
   compiled source output parts call zero =
       let procs = has_flag (codes "procs") parts in
+      let fast = has_flag (codes "fast") parts in
       let work = asked words files afterwards put status called (inl zero) (codes "compile") call.more call.are in
       let given = compile-given works call.more source output parts work.0 call.says work.1 in
-      let target = target_for given.0 given.1 (has_flag (codes "fast") parts) in
+      let target = target_for given.0 given.1 fast in
       let found = compiled-of called.promises.explained source output target procs
       (ap work_of call.are ∙ work.1 ∙ ap Some given.4) zero files called.tells.told in
       let file = found.2.file in
       record {
-        text = found.2.text;
-        there = found.2.there;
-        bytes = file.bytes;
-        written = written-is output file.bytes files afterwards
-            (same_Some afterwards found.0 (sym called.tells.left ∙ found.1) ∙ file.written);
-        object = compiled-program procs found.2.text file.p target file.bytes file.spells file.compiled;
+        of = record {
+          text = found.2.text;
+          there = found.2.there;
+          block_log = given.0;
+          window = given.1;
+          sized = given.2;
+          opened = given.3;
+          bytes = file.bytes;
+          written = written-is output file.bytes files afterwards
+              (same_Some afterwards found.0 (sym called.tells.left ∙ found.1) ∙ file.written);
+          object = compiled-program procs found.2.text file.p target file.bytes file.spells file.compiled;
+          layout = λ plain. subst (λ (b : Bool). HasLayoutFor b file.p given.0 file.compiled.o) plain
+              file.compiled.layout;
+        };
+        layout = file.compiled.layout;
       }
 
   pub inferred : (object output : Text) (parts : List Part)
@@ -324,5 +376,6 @@ module _ (words : List Text) (files afterwards : Files) (put : List ℕ) (status
         held = record { bytes = file.bytes; there = file.there; spells = file.spells };
         notes = file.notes.inferred.notes;
         found = subst (λ (o : Parts). HoldsObject afterwards output o) is there;
+        least = subst (λ (o : Parts). GetsNotes file.o o) is file.notes;
         oblivious = subst IsOblivious (file.same ∙ is) file.safe.oblivious;
       }

@@ -38,6 +38,8 @@ pub mod HeadlineVerbs
 pub mod HeadlineBuses
 pub mod EachVerb
 pub mod HeadlineOutputs
+pub mod HeadlineProgress
+pub mod HeadlineMore
 pub mod HeadlineAll
 pub mod LoggedCalls
 pub mod ReadBytes

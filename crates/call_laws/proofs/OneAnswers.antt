@@ -64,13 +64,13 @@ of-told files work ending (Found name limit next bytes ending' gives short comes
     comes
 of-told files work ending (Answered question next answer ending' right comes) = (answer, right, comes)
 
-none-some : {X A : Type 0} (found : Option A) (a : A) → found ≡ None → found ≡ Some a → X
+pub none-some : {X A : Type 0} (found : Option A) (a : A) → found ≡ None → found ≡ Some a → X
 none-some {A = A} found a none some = absurd (let f : ◌≡◌ {A = Option A} None (Some a) = sym none ∙ some in cc)
 
-some-once : {A : Type 0} (found : Option A) (a b : A) → found ≡ Some a → found ≡ Some b → a ≡ b
+pub some-once : {A : Type 0} (found : Option A) (a b : A) → found ≡ Some a → found ≡ Some b → a ≡ b
 some-once {A = A} found a b first second = let f : ◌≡◌ {A = Option A} (Some a) (Some b) = sym first ∙ second in cc
 
-past-limit : {X : Type 0} (n limit : ℕ) → limit < n → n ≤ limit → X
+pub past-limit : {X : Type 0} (n limit : ℕ) → limit < n → n ≤ limit → X
 past-limit n limit long short = absurd (omega (arith, long, short))
 
 -- ---- each question has one right answer
@@ -80,7 +80,7 @@ pub decoded-right : (bytes : List ℕ) (answer : Result Parts DecodeError) → I
 decoded-right bytes (Ok o) spells = ap decoded spells.spelled ∙ decoded-spelling o spells.in_range
 decoded-right bytes (Err first) is = first-decoded bytes first is
 
-object-once : (bytes : List ℕ) (a b : Result Parts DecodeError) → IsRight (WhichObject bytes) a
+pub object-once : (bytes : List ℕ) (a b : Result Parts DecodeError) → IsRight (WhichObject bytes) a
     → IsRight (WhichObject bytes) b → a ≡ b
 object-once bytes a b first second = sym (decoded-right bytes a first) ∙ decoded-right bytes b second
 
@@ -118,7 +118,7 @@ inputs-once wants json (Err f) (Err g) first second =
     ap Err (shown-once first.0 f g first.2
     (subst (λ x. Shows x g) (err-once (inputs_of wants (json_of json)) second.0 first.0 second.1 first.1) second.2))
 
-judged-once : (o : Parts) (a b : Option (ℕ × Reason)) → IsRight (WhetherAccepted o) a
+pub judged-once : (o : Parts) (a b : Option (ℕ × Reason)) → IsRight (WhetherAccepted o) a
     → IsRight (WhetherAccepted o) b → a ≡ b
 judged-once o None None first second = refl
 judged-once o None (Some r) first second = absurd (refused_is_not_accepted o r.0 r.1 second first)

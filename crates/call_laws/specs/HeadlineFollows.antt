@@ -1,6 +1,7 @@
 -- The headline of a call, if the bytes of the shelf's files and of the sink are known, follows from what the call
 -- promises.
-use Rattle.std.specs.Prelude.{◌≡◌, ℕ, List, ◌++◌, Some}
+use Rattle.std.specs.Prelude.{◌≡◌, ◌⊎◌, ℕ, List, ◌++◌, Some}
+use Rattle.gr_base.specs.Counts.{Rose}
 use Rattle.gr_outside.specs.Shelf.{Files}
 use Rattle.command_words.specs.CommandLines.{AreTexts, Text}
 use Rattle.call_laws.specs.Headline.{Headline}
@@ -16,11 +17,17 @@ pub record Tells (files afterwards : Files) (put : List ℕ) (before after : Out
   pub sank : before.sink.held ≡ Some held
   pub gained : after.sink.held ≡ Some (held ++ put)
 
+-- a count of failed reads, writes or prints rose
+abbrev pub Fails : Outside → Outside → Type 0
+Fails before after =
+    Rose before.shelf.read_faults after.shelf.read_faults ⊎ Rose before.shelf.write_faults after.shelf.write_faults
+    ⊎ Rose before.sink.faults after.sink.faults
+
 -- whichever these are, they are as the headline says
 abbrev pub HasHeadline : List Text → Outside → Outside → ℕ → Type 0
 HasHeadline words before after status =
     (files afterwards : Files) (put : List ℕ) → Tells files afterwards put before after
-    → Headline words files afterwards put status
+    → Headline (Fails before after) words files afterwards put status
 
 abbrev pub HeadlineFollows : Type 0
 HeadlineFollows =

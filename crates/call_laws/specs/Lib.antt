@@ -12,6 +12,9 @@ pub mod CompiledRuns
 pub mod CompiledTexts
 pub mod Calls
 pub mod Verbs
+pub mod Watched
+pub mod Core
+pub mod More
 pub mod Headline
 pub mod HeadlineFollows
 pub mod ReadBytes

@@ -10,10 +10,15 @@ unfoldable pub use Rattle.call_laws.specs.CompiledTexts.{CompiledTexts}
 unfoldable pub use Rattle.call_laws.specs.Counting.{ShownAsOften, all_words, how_often}
 unfoldable pub use Rattle.call_laws.specs.Disassemble.{disassemble_work}
 unfoldable pub use Rattle.call_laws.specs.Evaluate.{evaluate_work, evaluates_on, on_left}
-pub use Rattle.call_laws.specs.Headline.{Compiles, Evaluates, HasRun, Headline, HoldsInputs, HoldsObject, HoldsOblivious, Infers, IsObjectOf, NameOutput, Runs, Shares, Traces}
-unfoldable pub use Rattle.call_laws.specs.Headline.{AllHeld, SpellsProgram, done_status, with_output}
+pub use Rattle.call_laws.specs.Core.{Compiles, Core, Evaluates, GivesInputs, HoldsAccepted, HoldsProgram, IsObjectOf, Progress, AreRunOptions}
+unfoldable pub use Rattle.call_laws.specs.Core.{IsDoneOrStarved, SucceedsOrStarves}
+pub use Rattle.call_laws.specs.Headline.{Headline}
+pub use Rattle.call_laws.specs.More.{Assembles, CompilesFast, Disassembles, HidesLeaves, Infers, More, MoreProgress, Samples, Shares, SpellsForCalls}
+unfoldable pub use Rattle.call_laws.specs.More.{AllHeld, SpellsProgram}
+pub use Rattle.call_laws.specs.Watched.{HasRun, HoldsInputs, HoldsObject, HoldsOblivious, NameOutput, Runs, Traces, Watched}
+unfoldable pub use Rattle.call_laws.specs.Watched.{done_status, with_output}
 pub use Rattle.call_laws.specs.HeadlineFollows.{Tells}
-unfoldable pub use Rattle.call_laws.specs.HeadlineFollows.{HasHeadline, HeadlineFollows}
+unfoldable pub use Rattle.call_laws.specs.HeadlineFollows.{Fails, HasHeadline, HeadlineFollows}
 unfoldable pub use Rattle.call_laws.specs.Infer.{infer_work, infers_to, on_inferred}
 pub use Rattle.call_laws.specs.ReadBytes.{Gains}
 unfoldable pub use Rattle.call_laws.specs.ReadBytes.{AreRead, HasReadBytes, ReadBytes, left_by}

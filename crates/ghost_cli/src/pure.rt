@@ -1,6 +1,7 @@
 ghost use Rattle.std.specs.Prelude.{◌≡◌, ◌≤◌, ℤ, IfErr, IfOk, List, Ok, length};
 ghost use Rattle.lt_isa.specs.Prelude.{IsOblivious, ProfileFits, FitsObject, wants_of};
-ghost use Rattle.call_laws.specs.Prelude.{IsObjectOf};
+ghost use Rattle.trace_patterns.specs.Prelude.{Accepts};
+ghost use Rattle.call_laws.specs.Prelude.{IsObjectOf, SpellsProgram};
 ghost use Rattle.call_steps.specs.Prelude.{SpellsObject, object_limit, EndsWorkWith, AreInputs, WhichInputs, source_limit, input_limit, or_ends, Work};
 ghost use Rattle.ghost_cli.specs.Pure.{NotChecked, NotCompiled, NotRun, RunsTo, TracesTo};
 ghost use Rattle.call_replies.specs.Prelude.{said};
@@ -45,7 +46,8 @@ pub fn compiled_bytes<'a>(
 ) -> Result<Vec<u8>, Reply<'a>>
     requires short { length text.now ≤ source_limit }
     requires fits { ProfileFits target.now.profile }
-    ensures compiled { IfOk result (λ bytes. IsObjectOf procs text.now bytes.items) }
+    ensures compiled { IfOk result (λ bytes.
+        IsObjectOf Accepts (SpellsProgram procs) target.now.profile text.now bytes.items) }
     ensures refused { IfErr result (λ reply. NotCompiled procs text.now target.now (said reply)) }
 {
     let program = source_in(alloc, text, procs)?;
