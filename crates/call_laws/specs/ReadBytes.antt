@@ -7,6 +7,7 @@ use Rattle.gr_outside.specs.Shelf.{Files, ShelfCall, with_file}
 use Rattle.command_words.specs.CommandLines.{AreTexts, Text}
 use Rattle.call_steps.specs.Outside.{Outside}
 use Rattle.call_laws.specs.Headline.{Headline}
+use Rattle.call_laws.specs.HeadlineFollows.{Fails}
 use Rattle.call_laws.specs.Promises.{IsDone, Promises}
 use Rattle.call_laws.specs.Verbs.{work_of}
 
@@ -36,7 +37,9 @@ left_by (call ∷ calls) files = left_by calls (written_to call.writes call.name
 abbrev pub HasReadBytes : List Text → Outside → Outside → ℕ → Type 0
 HasReadBytes words before after status =
     IsDone status → (calls : List ShelfCall) → Gains calls before after → (files : Files) → AreRead files calls
-    → (put : List ℕ) × Adds before.sink.held after.sink.held put × Headline words files (left_by calls files) put status
+    → (put : List ℕ)
+    × Adds before.sink.held after.sink.held put
+    × Headline (Fails before after) words files (left_by calls files) put status
 
 abbrev pub ReadBytes : Type 0
 ReadBytes =

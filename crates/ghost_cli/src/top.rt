@@ -1,7 +1,7 @@
 ghost use Rattle.std.specs.Prelude.{◌≡◌, IfErr, IfOk, OnErr};
 ghost use Rattle.command_words.specs.Prelude.{AreTexts, texts, asked_of, asks_of};
 ghost use Rattle.call_steps.specs.Prelude.{Makes, Happened, Explains, outside_at, LeavesToSay, stage};
-ghost use Rattle.call_laws.specs.Prelude.{HasHeadline, Promises, work_of, works};
+ghost use Rattle.call_laws.specs.Prelude.{HasHeadline, HasReadBytes, Promises, work_of, works};
 ghost use Rattle.call_replies.specs.Prelude.{said};
 ghost use Rattle.clap.specs.Words.{found_of, rows_of};
 
@@ -44,6 +44,9 @@ pub fn ghostrider<F: Shelf, O: Sink>(
         (outside_at (stage (F.seen shelf.old) (F.log shelf.old)) (O.seen out.old))
         (outside_at (stage (F.seen shelf.new) (F.log shelf.new)) (O.seen out.new)) result }
     ensures headline { HasHeadline (texts words.now)
+        (outside_at (stage (F.seen shelf.old) (F.log shelf.old)) (O.seen out.old))
+        (outside_at (stage (F.seen shelf.new) (F.log shelf.new)) (O.seen out.new)) result }
+    ensures read_bytes { HasReadBytes (texts words.now)
         (outside_at (stage (F.seen shelf.old) (F.log shelf.old)) (O.seen out.old))
         (outside_at (stage (F.seen shelf.new) (F.log shelf.new)) (O.seen out.new)) result }
     ensures happened { Happened (texts words.now) (F.log shelf.old) (F.log shelf.new) (O.waiting out.new) result }

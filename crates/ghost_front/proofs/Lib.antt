@@ -1,4 +1,6 @@
 pub mod Overlaid
+pub mod Saying
 pub mod CallEnds
 pub mod FirstWord
 pub mod HeldText
+pub mod DashLists

@@ -1,5 +1,8 @@
 pub mod Streams
+pub mod Dashes
 pub mod HeldText
+pub mod Saying
+pub mod Manners
 pub mod Paths
 pub mod Requests
 pub mod Served

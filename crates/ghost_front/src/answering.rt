@@ -1,6 +1,6 @@
 //! Answers what the words of a call ask the front itself.
 
-ghost use Rattle.std.specs.Prelude.{◌≡◌};
+ghost use Rattle.std.specs.Prelude.{◌≡◌, ◌≢◌, IsOk, OnOk};
 ghost use Rattle.ghost_front.specs.Streams.{told};
 
 use crate::help::{VERSION, put_help, put_help_on, put_help_on_other};
@@ -37,7 +37,8 @@ pub(crate) fn answer<'a, F: Shelf + Drop, O: Sink>(
     shelf: &mut StreamShelf<F>,
     out: &mut O,
 ) -> Ended<'a>
-    ensures { told shelf.new ≡ told shelf.old }
+    ensures files { told shelf.new ≡ told shelf.old }
+    ensures flushed { result.status ≢ 4 → O.waiting out.new ≡ 0 }
 {
     match request {
         Request::Help => done(put_help(out)),
@@ -51,7 +52,9 @@ pub(crate) fn answer<'a, F: Shelf + Drop, O: Sink>(
 }
 
 // How a call ended whose text was printed, or couldn't be.
-fn done(printed: Result<(), SinkFailed>) -> Ended<'static> {
+fn done(printed: Result<(), SinkFailed>) -> Ended<'static>
+    ensures { result.status ≢ 4 → IsOk printed }
+{
     Ended {
         status: status_after(printed, DONE),
         stop: None,
@@ -65,7 +68,8 @@ fn put_version<F: Shelf + Drop, O: Sink>(
     shelf: &mut StreamShelf<F>,
     out: &mut O,
 ) -> Result<(), SinkFailed>
-    ensures { told shelf.new ≡ told shelf.old }
+    ensures files { told shelf.new ≡ told shelf.old }
+    ensures flushed { OnOk result (O.waiting out.new ≡ 0) }
 {
     let made = made_text(alloc, path, shelf);
     put_all(&["ghostrider ", VERSION, "\n"], out)?;
@@ -101,7 +105,9 @@ fn made_text<F: Shelf + Drop>(
 }
 
 // Prints the path of the program.
-fn put_path<O: Sink>(path: Option<&str>, out: &mut O) -> Ended<'static> {
+fn put_path<O: Sink>(path: Option<&str>, out: &mut O) -> Ended<'static>
+    ensures { result.status ≢ 4 → O.waiting out.new ≡ 0 }
+{
     match path {
         Some(path) => done(put_all(&[path, "\n"], out)),
         None => refused(Stop::NoPath, out),

@@ -1,6 +1,10 @@
 //! Explains on standard error why a call failed, and prints warnings if it didn't, from the bytes that the call read.
 
-use crate::held_text::push_string;
+ghost use Rattle.std.specs.Prelude.{All, IfOk};
+ghost use Rattle.fault_texts.specs.Plain.{IsPlain};
+ghost use Rattle.ghost_front.specs.Saying.{Gains, SaysPlain};
+
+use crate::held_text::{plain, push_string};
 use crate::misused::{explain_misused, put_no_verb};
 use crate::outside::Reasons;
 use crate::paths::are_one_path;
@@ -14,8 +18,9 @@ use explain_words::{Call, File};
 use fault_texts::Words;
 use gr_base::Memory;
 use gr_outside::{Shelf, Sink};
-use real_outside::Cause;
+use real_outside::RealInput;
 use std::alloc::Global;
+use std::io::Read;
 
 /// The status if a file couldn't be read.
 const NOT_READ: u8 = 3;
@@ -39,7 +44,9 @@ struct Telling<'a> {
 
 impl Telling<'_> {
     // The text of some words.
-    fn text(self, alloc: Global, words: &Words) -> Result<Vec<u8>, Memory> {
+    fn text(self, alloc: Global, words: &Words) -> Result<Vec<u8>, Memory>
+        ensures { IfOk result (λ text. All IsPlain text.items) }
+    {
         if self.is_json {
             words.report(alloc, self.ended.status)
         } else {
@@ -53,7 +60,9 @@ impl Telling<'_> {
         alloc: Global,
         call: &Call<'_, '_>,
         files: &[File<'_>],
-    ) -> Result<Vec<u8>, Memory> {
+    ) -> Result<Vec<u8>, Memory>
+        ensures { IfOk result (λ text. All IsPlain text.items) }
+    {
         if self.is_json {
             call.reported(alloc, files)
         } else {
@@ -62,7 +71,9 @@ impl Telling<'_> {
     }
 
     // Nothing is known but the status.
-    fn nothing(self, alloc: Global) -> Result<Vec<u8>, Memory> {
+    fn nothing(self, alloc: Global) -> Result<Vec<u8>, Memory>
+        ensures { IfOk result (λ text. All IsPlain text.items) }
+    {
         self.text(alloc, &Words::new(alloc))
     }
 
@@ -78,7 +89,9 @@ impl Telling<'_> {
         before: &str,
         name: &str,
         after: &str,
-    ) -> Result<Vec<u8>, Memory> {
+    ) -> Result<Vec<u8>, Memory>
+        ensures { IfOk result (λ text. All IsPlain text.items) }
+    {
         let mut out = Words::new(alloc);
         out.say(self.begins());
         out.say(before);
@@ -88,37 +101,53 @@ impl Telling<'_> {
     }
 }
 
+/// What a call read from and wrote to, which know why they failed.
+#[derive(Clone, Copy)]
+pub(crate) struct Outsides<'a, F: Shelf + Drop, I: Read + Drop, O> {
+    pub shelf: &'a StreamShelf<F>,
+    pub input: &'a RealInput<I>,
+    pub out: &'a O,
+}
+
 /// Prints why the call of these words ended with a status that isn't 0, and warnings if it ended with 0. A failure to
 /// print is ignored. If memory runs out, nothing is printed.
-pub(crate) fn explain<F: Shelf + Reasons + Drop, O: Sink + Reasons, E: Sink>(
+#[tactic(auto, using(crate::proofs::Saying::says_nothing, crate::proofs::Saying::says_plain))]
+pub(crate) fn explain<F: Shelf + Reasons + Drop, I: Read + Drop, O: Sink + Reasons, E: Sink>(
     alloc: Global,
     manner: Manner,
     words: &[&str],
     ended: Ended<'_>,
-    shelf: &StreamShelf<F>,
-    out: &O,
+    outsides: Outsides<'_, F, I, O>,
     errors: &mut E,
-) {
+)
+    ensures { SaysPlain (E.seen errors.old) (E.seen errors.new) }
+{
     let Some(telling) = telling_in(manner, words, ended) else {
         return;
     };
-    if let Ok(text) = explanation(alloc, telling, shelf, out) {
-        put_text(text.as_slice(), errors);
+    match explanation(alloc, telling, outsides) {
+        Ok(text) => put_text(text.as_slice(), errors),
+        Err(_) => {}
     }
 }
 
 /// Prints why the front ended a call of which no more is known.
+#[tactic(auto, using(crate::proofs::Saying::says_nothing, crate::proofs::Saying::says_plain))]
 pub(crate) fn explain_end<E: Sink>(
     alloc: Global,
     manner: Manner,
     ended: Ended<'_>,
+    stop: Stop<'_>,
     errors: &mut E,
-) {
-    if let Some(telling) = telling_in(manner, &[], ended)
-        && let Some(stop) = ended.stop
-        && let Ok(text) = explain_stop(alloc, telling, stop)
-    {
-        put_text(text.as_slice(), errors);
+)
+    ensures { SaysPlain (E.seen errors.old) (E.seen errors.new) }
+{
+    let Some(telling) = telling_in(manner, &[], ended) else {
+        return;
+    };
+    match explain_stop(alloc, telling, stop) {
+        Ok(text) => put_text(text.as_slice(), errors),
+        Err(_) => {}
     }
 }
 
@@ -137,23 +166,33 @@ fn telling_in<'a>(manner: Manner, words: &'a [&'a str], ended: Ended<'a>) -> Opt
 }
 
 /// Prints a text if it isn't empty. A failure is ignored.
-pub(crate) fn put_text<E: Sink>(text: &[u8], errors: &mut E) {
-    if !text.is_empty() && errors.put(text).is_ok() {
-        let _ = errors.flush();
+#[tactic(auto, using(crate::proofs::Saying::gains_none, crate::proofs::Saying::gains_front, crate::proofs::Saying::gains_all))]
+pub(crate) fn put_text<E: Sink>(text: &[u8], errors: &mut E)
+    ensures { Gains (E.seen errors.old) (E.seen errors.new) text.now }
+{
+    if text.is_empty() {
+        return;
     }
+    match errors.put(text) {
+        Ok(()) => {}
+        Err(_) => return,
+    }
+    let _ = errors.flush();
 }
 
-fn explanation<F: Shelf + Reasons + Drop, O: Sink + Reasons>(
+fn explanation<F: Shelf + Reasons + Drop, I: Read + Drop, O: Sink + Reasons>(
     alloc: Global,
     telling: Telling<'_>,
-    shelf: &StreamShelf<F>,
-    out: &O,
-) -> Result<Vec<u8>, Memory> {
+    outsides: Outsides<'_, F, I, O>,
+) -> Result<Vec<u8>, Memory>
+    ensures { IfOk result (λ text. All IsPlain text.items) }
+{
+    let Outsides { shelf, input, out } = outsides;
     if let Some(stop) = telling.ended.stop {
         return explain_stop(alloc, telling, stop);
     }
     match telling.ended.status {
-        NOT_READ => read_reason(alloc, telling, shelf),
+        NOT_READ => read_reason(alloc, telling, shelf, input),
         NOT_WRITTEN => match out.reason(alloc) {
             Some(reason) => telling.sentence(alloc, "standard output: ", reason.as_str(), ""),
             None => files_reason(alloc, telling, shelf.files()),
@@ -166,7 +205,9 @@ fn explanation<F: Shelf + Reasons + Drop, O: Sink + Reasons>(
 }
 
 // What is wrong with the words of a call.
-fn usage_text(alloc: Global, telling: Telling<'_>) -> Result<Vec<u8>, Memory> {
+fn usage_text(alloc: Global, telling: Telling<'_>) -> Result<Vec<u8>, Memory>
+    ensures { IfOk result (λ text. All IsPlain text.items) }
+{
     let mut out = Words::new(alloc);
     explain_misused(telling.words, telling.begins(), &mut out);
     if !out.finish(alloc)?.is_empty() {
@@ -179,7 +220,9 @@ fn usage_text(alloc: Global, telling: Telling<'_>) -> Result<Vec<u8>, Memory> {
 
 // A call that ended with status 1. What it printed explains itself, and with `--json` the cases of `test` that failed
 // are printed already.
-fn other_text(alloc: Global, telling: Telling<'_>) -> Result<Vec<u8>, Memory> {
+fn other_text(alloc: Global, telling: Telling<'_>) -> Result<Vec<u8>, Memory>
+    ensures { IfOk result (λ text. All IsPlain text.items) }
+{
     if is_verb(telling.words, "test") {
         return Ok(Vec::new(alloc));
     }
@@ -195,18 +238,17 @@ fn is_verb(words: &[&str], verb: &str) -> bool {
 }
 
 // The warnings of a call that did its work.
-fn warnings_text(
-    alloc: Global,
-    telling: Telling<'_>,
-    read: &[ReadFile],
-) -> Result<Vec<u8>, Memory> {
+fn warnings_text(alloc: Global, telling: Telling<'_>, read: &[ReadFile]) -> Result<Vec<u8>, Memory>
+    ensures { IfOk result (λ text. All IsPlain text.items) }
+{
     let mut text = fault_text(alloc, telling, read)?;
     let named = names_of(alloc, telling.words)?;
     let call = Call::new(alloc, telling.ended.status, usage_of(telling.words), &named)?;
-    if let Some(name) = replaced_source(telling.words, call.placed()) {
-        push_replaced(alloc, telling.is_json, name, &mut text)?;
-    }
-    Ok(text)
+    let Some(name) = replaced_source(telling.words, call.placed()) else {
+        return Ok(text);
+    };
+    push_replaced(alloc, telling.is_json, name, &mut text)?;
+    plain(alloc, text.as_slice())
 }
 
 // The source of a call of `compile` or `eval`, if OUT, its last file, has the same name and so replaced it.
@@ -248,7 +290,9 @@ fn push_replaced(
 }
 
 // Why the front ended the call itself.
-fn explain_stop(alloc: Global, telling: Telling<'_>, stop: Stop<'_>) -> Result<Vec<u8>, Memory> {
+fn explain_stop(alloc: Global, telling: Telling<'_>, stop: Stop<'_>) -> Result<Vec<u8>, Memory>
+    ensures { IfOk result (λ text. All IsPlain text.items) }
+{
     let (before, name, after) = match stop {
         Stop::NoMemory => return telling.nothing(alloc),
         Stop::ReadsTwice => ("standard input can be read as only one file", "", ""),
@@ -270,7 +314,9 @@ fn explain_stop(alloc: Global, telling: Telling<'_>, stop: Stop<'_>) -> Result<V
 }
 
 // A word that isn't a verb.
-fn no_verb(alloc: Global, telling: Telling<'_>, word: &str) -> Result<Vec<u8>, Memory> {
+fn no_verb(alloc: Global, telling: Telling<'_>, word: &str) -> Result<Vec<u8>, Memory>
+    ensures { IfOk result (λ text. All IsPlain text.items) }
+{
     let mut out = Words::new(alloc);
     out.say(telling.begins());
     put_no_verb(word, &mut out);
@@ -278,13 +324,16 @@ fn no_verb(alloc: Global, telling: Telling<'_>, word: &str) -> Result<Vec<u8>, M
 }
 
 // Why a file couldn't be read.
-fn read_reason<F: Shelf + Reasons + Drop>(
+fn read_reason<F: Shelf + Reasons + Drop, I: Read + Drop>(
     alloc: Global,
     telling: Telling<'_>,
     shelf: &StreamShelf<F>,
-) -> Result<Vec<u8>, Memory> {
-    match shelf.input_error() {
-        Some(error) => match format!(in alloc; "{}", Cause(error)) {
+    input: &RealInput<I>,
+) -> Result<Vec<u8>, Memory>
+    ensures { IfOk result (λ text. All IsPlain text.items) }
+{
+    match input.failure() {
+        Some(cause) => match format!(in alloc; "{cause}") {
             Ok(reason) => telling.sentence(alloc, "standard input: ", reason.as_str(), ""),
             Err(_) => Err(Memory),
         },
@@ -297,7 +346,9 @@ fn files_reason<F: Reasons>(
     alloc: Global,
     telling: Telling<'_>,
     files: &F,
-) -> Result<Vec<u8>, Memory> {
+) -> Result<Vec<u8>, Memory>
+    ensures { IfOk result (λ text. All IsPlain text.items) }
+{
     match files.reason(alloc) {
         Some(reason) => telling.sentence(alloc, "", reason.as_str(), ""),
         None => telling.nothing(alloc),
@@ -305,7 +356,9 @@ fn files_reason<F: Reasons>(
 }
 
 // What the fault of a call means, by the files that it read, or its warnings.
-fn fault_text(alloc: Global, telling: Telling<'_>, read: &[ReadFile]) -> Result<Vec<u8>, Memory> {
+fn fault_text(alloc: Global, telling: Telling<'_>, read: &[ReadFile]) -> Result<Vec<u8>, Memory>
+    ensures { IfOk result (λ text. All IsPlain text.items) }
+{
     let Telling { words, ended, .. } = telling;
     let named = names_of(alloc, words)?;
     let call = Call::new(alloc, ended.status, usage_of(words), &named)?;

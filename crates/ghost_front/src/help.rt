@@ -1,5 +1,7 @@
 //! What `help` and `--version` print.
 
+ghost use Rattle.std.specs.Prelude.{◌≡◌, OnOk};
+
 use crate::verb_table::{
     NOTES, OPTIONS, OptionHelp, READS, STATUSES, StatusHelp, VERBS, VerbHelp, WRITES,
     name_of_option, returns, takes, text_for,
@@ -10,7 +12,9 @@ use gr_outside::{Sink, SinkFailed};
 pub const VERSION: &str = "1.11.0";
 
 /// Prints all verbs, options and exit statuses.
-pub(crate) fn put_help<O: Sink>(out: &mut O) -> Result<(), SinkFailed> {
+pub(crate) fn put_help<O: Sink>(out: &mut O) -> Result<(), SinkFailed>
+    ensures { OnOk result (O.waiting out.new ≡ 0) }
+{
     for verb in VERBS {
         put_usage(verb, out)?;
     }
@@ -32,7 +36,9 @@ pub(crate) fn put_help<O: Sink>(out: &mut O) -> Result<(), SinkFailed> {
 }
 
 /// Prints what one verb does, its options, and the exit statuses that it can return.
-pub(crate) fn put_help_on<O: Sink>(verb: VerbHelp, out: &mut O) -> Result<(), SinkFailed> {
+pub(crate) fn put_help_on<O: Sink>(verb: VerbHelp, out: &mut O) -> Result<(), SinkFailed>
+    ensures { OnOk result (O.waiting out.new ≡ 0) }
+{
     put_usage(verb, out)?;
     put_options_of(verb, out)?;
     put_streams_of(verb, out)?;
@@ -47,7 +53,9 @@ pub(crate) fn put_help_on<O: Sink>(verb: VerbHelp, out: &mut O) -> Result<(), Si
 }
 
 /// Prints what a word does that may stand in the place of a verb or before it.
-pub(crate) fn put_help_on_other<O: Sink>(row: VerbHelp, out: &mut O) -> Result<(), SinkFailed> {
+pub(crate) fn put_help_on_other<O: Sink>(row: VerbHelp, out: &mut O) -> Result<(), SinkFailed>
+    ensures { OnOk result (O.waiting out.new ≡ 0) }
+{
     put_usage(row, out)?;
     out.flush()
 }

@@ -2,18 +2,19 @@
 #![tactic(auto)]
 
 mod answering;
+mod dashes;
 mod explaining;
 mod held_text;
 mod help;
 mod misused;
-mod named_files;
 mod outside;
 mod paths;
 mod printing;
-mod reading;
 mod requests;
+mod running;
 mod serving;
 mod streams;
+mod tool_files;
 mod tools;
 mod top;
 mod verb_table;
@@ -21,5 +22,6 @@ mod verb_table;
 pub use answering::Program;
 pub use help::VERSION;
 pub use outside::Reasons;
+pub use running::run;
 pub use streams::StreamShelf;
 pub use top::{front, refuse_words};

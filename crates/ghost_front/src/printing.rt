@@ -1,6 +1,6 @@
 //! Prints texts, and returns the exit status that goes with them.
 
-ghost use Rattle.std.specs.Prelude.{◌≡◌, ◌≢◌, ◌⊎◌, OnOk, OnErr};
+ghost use Rattle.std.specs.Prelude.{◌≡◌, ◌≢◌, ◌⊎◌, IsOk, OnOk, OnErr};
 ghost use Rattle.gr_base.specs.Prelude.{Adds, Rose};
 ghost use Rattle.call_steps.specs.Prelude.{PutsSaid};
 
@@ -19,7 +19,9 @@ pub(crate) const NOT_PUT: u8 = 4;
 pub(crate) const NO_MEMORY: u8 = 5;
 
 /// Prints texts one after another, and passes on what the sink holds back.
-pub(crate) fn put_all<O: Sink>(texts: &[&str], out: &mut O) -> Result<(), SinkFailed> {
+pub(crate) fn put_all<O: Sink>(texts: &[&str], out: &mut O) -> Result<(), SinkFailed>
+    ensures { OnOk result (O.waiting out.new ≡ 0) }
+{
     'printing: for text in texts {
         out.put(text.as_bytes())?;
     }
@@ -31,6 +33,7 @@ pub(crate) fn put_all<O: Sink>(texts: &[&str], out: &mut O) -> Result<(), SinkFa
 pub(crate) fn put_bytes<O: Sink>(bytes: &[u8], out: &mut O) -> Result<(), SinkFailed>
     ensures printed { OnOk result (Adds (O.seen out.old).held (O.seen out.new).held bytes.now) }
     ensures failed { OnErr result (Rose (O.seen out.old).faults (O.seen out.new).faults) }
+    ensures flushed { OnOk result (O.waiting out.new ≡ 0) }
 {
     match out.put(bytes) {
         Ok(()) => {}
@@ -57,7 +60,8 @@ pub(crate) fn put_line<O: Sink>(line: &str, status: u8, out: &mut O) -> u8
 
 /// The status of a call whose output was printed, or couldn't be.
 pub(crate) fn status_after(printed: Result<(), SinkFailed>, status: u8) -> u8
-    ensures { (result ≡ status) ⊎ (result ≡ 4) }
+    ensures either { (result ≡ status) ⊎ (result ≡ 4) }
+    ensures failed { result ≢ 4 → IsOk printed }
 {
     match printed {
         Ok(()) => status,

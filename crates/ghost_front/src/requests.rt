@@ -1,7 +1,8 @@
 //! What the words of a call ask the front itself.
 
-ghost use Rattle.std.specs.Prelude.{◌≡◌, ◌∷◌, is_some};
+ghost use Rattle.std.specs.Prelude.{◌≡◌, ◌∷◌, codes, is_some};
 ghost use Rattle.command_words.specs.Prelude.{texts};
+ghost use Rattle.ghost_front.specs.Manners.{first_is, manner_in, manner_of};
 ghost use Rattle.ghost_front.specs.Requests.{asked, asks_front, asks_help, is_about, is_help_option, is_manner};
 
 use crate::verb_table::{VerbHelp, other_help, verb_help};
@@ -38,22 +39,42 @@ pub(crate) enum Manner {
 
 /// How faults and warnings are printed if the words of a call are these, and if the program `explains` at all. If both
 /// `--quiet` and `--json` precede the verb, that is a usage error, which is printed.
-pub(crate) fn manner_in(explains: bool, words: &[&str]) -> Manner {
+pub(crate) fn manner_in(explains: bool, words: &[&str]) -> Manner
+    ensures { result ≡ manner_in explains (texts words.now) }
+{
     if !explains {
         return Manner::Quiet;
     }
-    if asks_json(words) || is_at(words, 1, "--json") && is_at(words, 0, "--quiet") {
+    if words.len() == 0 {
+        return Manner::Words;
+    }
+    manner_of(words[0], &words[1..])
+}
+
+// The manner of a first word and the words that follow it.
+fn manner_of(first: &str, rest: &[&str]) -> Manner
+    ensures { result ≡ manner_of first.now (texts rest.now) }
+{
+    if first == "--json" {
         return Manner::Json;
     }
-    if is_at(words, 0, "--quiet") && !is_at(words, 1, "--quiet") {
-        return Manner::Quiet;
+    if first != "--quiet" {
+        return Manner::Words;
     }
-    Manner::Words
+    if asks_json(rest) {
+        return Manner::Json;
+    }
+    if is_first(rest, "--quiet") {
+        return Manner::Words;
+    }
+    Manner::Quiet
 }
 
 /// Whether the words of a call ask for lines of JSON.
-pub(crate) fn asks_json(words: &[&str]) -> bool {
-    is_at(words, 0, "--json")
+pub(crate) fn asks_json(words: &[&str]) -> bool
+    ensures { result ≡ first_is (codes "--json") (texts words.now) }
+{
+    is_first(words, "--json")
 }
 
 /// Whether each case of `test` that fails is printed as a line of JSON too.
@@ -64,12 +85,14 @@ pub(crate) fn lists_cases(manner: Manner) -> bool {
     }
 }
 
-// Whether the word at a place is this one.
-fn is_at(words: &[&str], place: usize, wanted: &str) -> bool {
-    match words.get(place) {
-        Some(word) => *word == wanted,
-        None => false,
+// Whether the first word is this one.
+fn is_first(words: &[&str], wanted: &str) -> bool
+    ensures { result ≡ first_is wanted.now (texts words.now) }
+{
+    if words.len() == 0 {
+        return false;
     }
+    words[0] == wanted
 }
 
 /// Whether a word determines how faults and warnings are printed.

@@ -9,7 +9,6 @@ ghost use Rattle.ghost_front.specs.Streams.{as_shelf, dash, overlaid, stream_of,
 
 use gr_outside::{Shelf, ShelfError};
 use std::alloc::{AllocError, Global};
-use std::io::Error;
 use std::marker::Model;
 
 /// The name of the standard streams.
@@ -32,7 +31,6 @@ pub struct StreamShelf<F: Shelf + Drop> {
     alloc: Global,
     files: F,
     input: Option<Vec<u8>>,
-    input_error: Option<Error>,
     output: Option<Vec<u8>>,
     keeps: bool,
     read: Vec<ReadFile>,
@@ -75,7 +73,6 @@ impl<F: Shelf + Drop> StreamShelf<F> {
             alloc,
             files,
             input: None,
-            input_error: None,
             output: None,
             keeps,
             read: Vec::new(alloc),
@@ -102,18 +99,6 @@ impl<F: Shelf + Drop> StreamShelf<F> {
         ensures { self.new ≡ record self.old { input = Some bytes.items } }
     {
         self.input = Some(bytes);
-    }
-
-    /// Remembers why standard input couldn't be read.
-    pub fn set_input_error(&mut self, error: Error)
-        ensures { self.new ≡ self.old }
-    {
-        self.input_error = Some(error);
-    }
-
-    /// Why standard input couldn't be read, if that was tried and failed.
-    pub(crate) fn input_error(&self) -> Option<Error> {
-        self.input_error
     }
 
     /// The bytes that are to go to standard output, if `-` was written.
@@ -239,8 +224,10 @@ fn copy_of(alloc: Global, name: &str, bytes: &[u8]) -> Result<ReadFile, AllocErr
     Ok(ReadFile { name, bytes })
 }
 
+/// Whether a name is that of the standard streams.
 #[tactic(auto, using(crate::proofs::Overlaid::named_dash))]
-fn is_dash(name: &str) -> bool
+pub(crate) fn is_dash(name: &str) -> bool
+    ensures value { result ≡ bytes_eq name.now dash }
     ensures yes { result ≡ true → name.now ≡ dash }
     ensures no { result ≡ false → bytes_eq name.now dash ≡ false }
 {

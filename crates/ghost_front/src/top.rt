@@ -1,13 +1,15 @@
 //! The call of the front program.
 
-ghost use Rattle.std.specs.Prelude.{◌≡◌, false};
+ghost use Rattle.std.specs.Prelude.{◌≡◌, ◌≢◌, false};
 ghost use Rattle.command_words.specs.Prelude.{texts};
 ghost use Rattle.call_laws.specs.Prelude.{work_of};
+ghost use Rattle.ghost_front.specs.Dashes.{dashes_in};
 ghost use Rattle.ghost_front.specs.Requests.{asked, asks_front, asks_tool};
+ghost use Rattle.ghost_front.specs.Saying.{SaysPlain};
 ghost use Rattle.ghost_front.specs.Served.{KeepsOthers, Serves, around};
 
 use crate::answering::{Program, answer};
-use crate::explaining::{explain, explain_end};
+use crate::explaining::{Outsides, explain, explain_end};
 use crate::outside::Reasons;
 use crate::printing::USAGE;
 use crate::requests::{asked_words, asks_json, lists_cases, manner_in, request_in};
@@ -15,6 +17,7 @@ use crate::serving::{Ended, Stop, serve};
 use crate::streams::StreamShelf;
 use crate::tools::{serve_tool, tool_in};
 use gr_outside::{Shelf, Sink};
+use real_outside::RealInput;
 use std::alloc::Global;
 use std::io::Read;
 
@@ -29,18 +32,23 @@ use std::io::Read;
 /// what a source and inputs may not mean. No file is opened for them. `--json` as the first word prints all that goes to
 /// `errors` as lines of JSON, and `--quiet` prints neither explanations nor warnings. If the output can't be written, the
 /// status is 4.
-pub fn front<F: Shelf + Reasons + Drop, I: Read, O: Sink + Reasons, E: Sink>(
+pub fn front<F: Shelf + Reasons + Drop, I: Read + Drop, O: Sink + Reasons, E: Sink>(
     alloc: Global,
     program: Program<'_>,
     words: &[&str],
     shelf: &mut StreamShelf<F>,
-    input: &mut I,
+    input: &mut RealInput<I>,
     out: &mut O,
     errors: &mut E,
 ) -> u8
     ensures served { asks_front (asked (texts words.now)) ≡ false → asks_tool (asked (texts words.now)) ≡ false
-        → Serves (work_of (asked (texts words.now))) (around shelf.old (O.seen out.old) (E.seen errors.old))
-        (around shelf.new (O.seen out.new) (E.seen errors.new)) result }
+        → Serves (asked (texts words.now)) (around shelf.old input.old (O.seen out.old) (E.seen errors.old))
+        (around shelf.new input.new (O.seen out.new) (E.seen errors.new)) result }
+    ensures untouched { asks_tool (asked (texts words.now)) ≡ false → (dashes_in (asked (texts words.now))).read ≡ 0
+        → input.new ≡ input.old }
+    ensures flushed { O.waiting out.old ≡ 0 → result ≢ 4 → O.waiting out.new ≡ 0 }
+    ensures plain { (dashes_in (asked (texts words.now))).written ≡ false
+        → SaysPlain (E.seen errors.old) (E.seen errors.new) }
     ensures others { KeepsOthers (work_of (asked (texts words.now))) shelf.old.files shelf.new.files }
 {
     let asked = asked_words(words);
@@ -58,25 +66,30 @@ pub fn front<F: Shelf + Reasons + Drop, I: Read, O: Sink + Reasons, E: Sink>(
         out,
         errors,
     );
-    explain(alloc, manner, asked, ended, shelf, out, errors);
+    let outsides = Outsides { shelf, input, out };
+    explain(alloc, manner, asked, ended, outsides, errors);
     ended.status
 }
 
 /// Does what the words ask for, and explains nothing.
-fn end_call<'a, F: Shelf + Drop, I: Read, O: Sink, E: Sink>(
+fn end_call<'a, F: Shelf + Drop, I: Read + Drop, O: Sink, E: Sink>(
     alloc: Global,
     path: Option<&str>,
     words: &'a [&'a str],
     as_lines: bool,
     lists: bool,
     shelf: &mut StreamShelf<F>,
-    input: &mut I,
+    input: &mut RealInput<I>,
     out: &mut O,
     errors: &mut E,
 ) -> Ended<'a>
     ensures served { asks_front (texts words.now) ≡ false → asks_tool (texts words.now) ≡ false
-        → Serves (work_of (texts words.now)) (around shelf.old (O.seen out.old) (E.seen errors.old))
-        (around shelf.new (O.seen out.new) (E.seen errors.new)) result.status }
+        → Serves (texts words.now) (around shelf.old input.old (O.seen out.old) (E.seen errors.old))
+        (around shelf.new input.new (O.seen out.new) (E.seen errors.new)) result.status }
+    ensures untouched { asks_tool (texts words.now) ≡ false → (dashes_in (texts words.now)).read ≡ 0
+        → input.new ≡ input.old }
+    ensures flushed { O.waiting out.old ≡ 0 → result.status ≢ 4 → O.waiting out.new ≡ 0 }
+    ensures plain { (dashes_in (texts words.now)).written ≡ false → SaysPlain (E.seen errors.old) (E.seen errors.new) }
     ensures others { KeepsOthers (work_of (texts words.now)) shelf.old.files shelf.new.files }
 {
     if let Some(request) = request_in(words) {
@@ -91,12 +104,19 @@ fn end_call<'a, F: Shelf + Drop, I: Read, O: Sink, E: Sink>(
 /// Prints to `errors` that a word of the call isn't UTF-8, and returns the status of a usage error. `first` is the first
 /// word of the call, or empty if it isn't known.
 pub fn refuse_words<E: Sink>(alloc: Global, explains: bool, first: &str, errors: &mut E) -> u8
-    ensures { result ≡ 2 }
+    ensures status { result ≡ 2 }
+    ensures plain { SaysPlain (E.seen errors.old) (E.seen errors.new) }
 {
     let ended = Ended {
         status: USAGE,
-        stop: Some(Stop::NotText),
+        stop: None,
     };
-    explain_end(alloc, manner_in(explains, &[first]), ended, errors);
+    explain_end(
+        alloc,
+        manner_in(explains, &[first]),
+        ended,
+        Stop::NotText,
+        errors,
+    );
     USAGE
 }

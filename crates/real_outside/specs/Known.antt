@@ -13,3 +13,9 @@ pub record AreAppended {F : Type 0} (contents : F → Option (List ℕ)) (bytes 
   pub before : F
   pub after : F
   pub are : Appends (contents before) (contents after) bytes
+
+-- how contracts see an input over a reader: the bytes that the reader has left, if they are visible, and how many reads
+-- failed
+pub record InputSeen : Type 0 where
+  pub left : Option (List ℕ)
+  pub faults : ℕ

@@ -3,17 +3,15 @@ ghost use Rattle.gr_base.specs.Prelude.{one_more, Rose};
 ghost use Rattle.real_outside.specs.Known.{AreAppended, IsFrontOf};
 
 use crate::failure::Failure;
+use crate::reading::front_of;
 use crate::replacing::replace;
 use gr_outside::{Shelf, ShelfError};
 use std::alloc::{AllocError, Global};
-use std::io::{Error, ErrorKind, Read};
+use std::io::{Error, ErrorKind};
 use std::marker::Model;
 use std::os::unix::io::AsFd;
 use std::rt::Files;
 use std::{fs, io};
-
-/// The most bytes that one call of the system reads.
-const CHUNK: usize = 65_536;
 
 /// A shelf over real files. It can't list its files, so contracts see none of them. Its own clauses state that a read
 /// returns the first bytes of what some file had left, and that a write has added all bytes to some file. It isn't
@@ -176,16 +174,4 @@ fn read_front<R: Files>(rt: &R, alloc: Global, name: &str, most: usize) -> io::R
         Ok(file) => front_of(alloc, file, most),
         Err(error) => Err(error),
     }
-}
-
-/// The first `most` bytes that a reader has left, or all of them if it has fewer.
-fn front_of<F: Read + Drop>(alloc: Global, file: F, most: usize) -> io::Result<Vec<u8>>
-    ensures at_most { IfOk result (λ bytes. vec_len bytes ≤ most) }
-    ensures front { IfOk result (λ bytes. IsFrontOf (F.remaining file) most bytes.items) }
-{
-    let mut bytes = Vec::new(alloc);
-    file.take(most as u64).read_to_end(&mut bytes)?;
-    // No more than this was asked for, but `take` promises so only of readers whose bytes are known.
-    bytes.truncate(most);
-    Ok(bytes)
 }

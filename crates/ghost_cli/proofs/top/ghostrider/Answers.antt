@@ -2,6 +2,7 @@ use Rattle.std.proofs.Common.{refl}
 use Rattle.ghost_cli.proofs.CallsNamed.{calls-of}
 use Rattle.ghost_cli.proofs.Flushed.{cut_explains, flushed_explains}
 use Rattle.call_laws.proofs.HeadlineAll.{headlined}
+use Rattle.call_laws.proofs.ReadBytes.{has-read-bytes}
 use Rattle.ghost_cli.proofs.top.ghostrider.Goals as goal
 
 pub returns-in-Ok : goal.returns-in-Ok
@@ -11,6 +12,7 @@ returns-in-Ok g c =
     record {
       promises = record { explained = explained };
       headline = headlined c.look_at.ensures explained;
+      read_bytes = has-read-bytes c.look_at.ensures explained;
       happened = record {
         calls = calls-of c.look_at.ensures c.explained-status.ensures.calls;
         flushed = λ other. c.in-Ok.ensures.passed_on;
@@ -25,6 +27,7 @@ returns-in-Err g c =
     record {
       promises = record { explained = explained };
       headline = headlined c.look_at.ensures explained;
+      read_bytes = has-read-bytes c.look_at.ensures explained;
       happened = record {
         calls = calls-of c.look_at.ensures c.explained-status.ensures.calls;
         flushed = λ other. absurd (other refl);

@@ -3,12 +3,12 @@ use Rattle.call_laws.specs.Prelude.{work_of}
 use Rattle.ghost_front.proofs.CallEnds.{told_keeps_after}
 use Rattle.ghost_front.proofs.tools.serve_tool.Goals as goal
 
-pub returns : goal.returns
-returns g c =
+pub returns-then-is_test-clause-others : goal.returns-then-is_test-clause-others
+returns-then-is_test-clause-others g c =
     told_keeps_after (work_of (texts c.args.words.now)) c.args.shelf.now c.take_input.new.shelf c.serve_test.new.shelf
-    c.take_input.ensures.only_input c.serve_test.ensures
+    c.take_input.ensures.only_input c.serve_test.ensures.files
 
-pub returns-2 : goal.returns-2
-returns-2 g c =
+pub returns-clause-others : goal.returns-clause-others
+returns-clause-others g c =
     told_keeps_after (work_of (texts c.args.words.now)) c.args.shelf.now c.take_input.new.shelf c.run_tool.new.shelf
-    c.take_input.ensures.only_input c.run_tool.ensures
+    c.take_input.ensures.only_input c.run_tool.ensures.files
